@@ -1,0 +1,70 @@
+-- Worked numbers of the definitions.
+use Rattle.std.proofs.Common.{◌≡◌, ◌+◌, ◌*◌, ◌/◌, ◌%◌, ℕ, List, [], ◌∷◌, true, false, refl, map}
+use Rattle.std.specs.Prelude.{replicate}
+use Rattle.hpe_base.specs.Lists.{tabulate, joined}
+use Rattle.hpe_base.specs.Bits.{bits_of, number_of, zeros}
+use Rattle.hpe_base.specs.Parameters.{basic, period_slots}
+use Rattle.hpe_base.specs.Randomiser.{randomised, pseudo_random}
+use Rattle.hpe_base.specs.Check.{check_bits}
+use Rattle.hpe_base.specs.ConvolutionalCode.{code_bits}
+use Rattle.hpe_base.specs.CodeInterleaver.{pi}
+use Rattle.hpe_base.specs.Accumulator.{accumulated}
+use Rattle.hpe_base.specs.Mapper.{symbols_of}
+use Rattle.hpe_base.specs.ChannelInterleaver.{interleaved_channel, deinterleaved_channel}
+use Rattle.hpe_base.specs.Slots.{pulses_of}
+use Rattle.hpe_base.specs.declared.profile.Order.TheVariants.{P4, P16}
+
+-- the built-in codeword marker follows its formula
+marker : tabulate 16 (λ i. 5 * i * (i + 1) / 2 % 16) ≡ basic.marker
+unfolding tabulate
+marker = refl
+
+period : period_slots basic ≡ 75920
+period = refl
+
+randomised_zeros : number_of (randomised basic (replicate 40 0)) ≡ 0xFF480EC09A
+unfolding tabulate bits_of pseudo_random
+randomised_zeros = refl
+
+randomised_marker : number_of (randomised basic (bits_of 32 0x1ACFFC1D)) ≡ 0xE587F2DD
+unfolding tabulate bits_of pseudo_random
+randomised_marker = refl
+
+-- the check of no bit, of the bit 1, of the bit 0, and of 32 ones
+checks : map (λ bits. number_of (check_bits 0x20044009 bits)) ([] ∷ (1 ∷ []) ∷ (0 ∷ []) ∷ replicate 32 1 ∷ [])
+    ≡ 0xFFFFFFFF ∷ 0xFFFFFFFE ∷ 0xDFFBBFF7 ∷ 0 ∷ []
+unfolding check_bits zeros bits_of
+checks = refl
+
+unpunctured : code_bits ((true ∷ true ∷ true ∷ []) ∷ []) (1 ∷ 0 ∷ 0 ∷ []) ≡ 1 ∷ 1 ∷ 1 ∷ 0 ∷ 1 ∷ 1 ∷ 1 ∷ 1 ∷ 1 ∷ []
+unfolding joined
+unpunctured = refl
+
+punctured : code_bits ((true ∷ true ∷ false ∷ []) ∷ (false ∷ true ∷ false ∷ []) ∷ []) (1 ∷ 0 ∷ 0 ∷ []) ≡ 1 ∷ 1 ∷ 1 ∷ 1 ∷ 1 ∷ []
+unfolding joined
+punctured = refl
+
+places : map pi (0 ∷ 1 ∷ 2 ∷ 15119 ∷ []) ≡ 0 ∷ 221 ∷ 862 ∷ 199 ∷ []
+places = refl
+
+running : accumulated (1 ∷ 0 ∷ 1 ∷ 0 ∷ []) ≡ 1 ∷ 1 ∷ 0 ∷ 0 ∷ []
+unfolding tabulate
+running = refl
+
+symbol : symbols_of P16 (1 ∷ 1 ∷ 0 ∷ 0 ∷ []) ≡ 12 ∷ []
+unfolding tabulate
+symbol = refl
+
+-- three rows, delays of 0, 3 and 6 places
+channel : interleaved_channel (record basic { rows = 3 }) (10 ∷ 11 ∷ 12 ∷ 13 ∷ 14 ∷ 15 ∷ 16 ∷ 17 ∷ 18 ∷ [])
+    ≡ 10 ∷ 0 ∷ 0 ∷ 13 ∷ 11 ∷ 0 ∷ 16 ∷ 14 ∷ 12 ∷ []
+unfolding interleaved_channel tabulate
+channel = refl
+
+channel_undone : deinterleaved_channel {V = ℕ} (record basic { rows = 3 }) 0 (10 ∷ 0 ∷ 0 ∷ 13 ∷ 11 ∷ 0 ∷ 16 ∷ 14 ∷ 12 ∷ []) ≡ 10 ∷ 11 ∷ 12 ∷ []
+unfolding deinterleaved_channel tabulate
+channel_undone = refl
+
+pulses : pulses_of (record basic { order = P4; repeat = 2 }) 2 ≡ 0 ∷ 0 ∷ 1 ∷ 0 ∷ 0 ∷ 0 ∷ 0 ∷ 1 ∷ 0 ∷ 0 ∷ []
+unfolding pulses_of tabulate
+pulses = refl

@@ -1,0 +1,16 @@
+pub mod Lists
+pub mod Bits
+pub mod Parameters
+pub mod View
+pub mod Frames
+pub mod Slicer
+pub mod Randomiser
+pub mod Check
+pub mod Termination
+pub mod ConvolutionalCode
+pub mod CodeInterleaver
+pub mod Accumulator
+pub mod Mapper
+pub mod Codeword
+pub mod ChannelInterleaver
+pub mod Slots
