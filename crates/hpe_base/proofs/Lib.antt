@@ -2,4 +2,6 @@ pub mod Tabulated
 pub mod BitLists
 pub mod ParameterLemmas
 pub mod KeptLength
+pub mod Channels
+pub mod Periods
 mod Examples

@@ -85,4 +85,4 @@ joined-tabulate zero m f = let none : 0 * m ≡ 0 = omega arith in sym (ap (λ k
 joined-tabulate (suc n) m f =
     let next : suc n * m ≡ n * m + m = grind arith in
     ap (λ xs. xs ++ tabulate m (λ i. f (n * m + i))) (joined-tabulate n m f)
-        ∙ sym (ap (λ k. tabulate k f) next ∙ tabulate-append (n * m) m f)
+    ∙ sym (ap (λ k. tabulate k f) next ∙ tabulate-append (n * m) m f)

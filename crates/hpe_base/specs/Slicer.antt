@@ -1,12 +1,9 @@
 -- The slicer: the bit stream in information blocks, the last of which is filled with zeros.
-use Rattle.std.specs.Prelude.{ℕ, ◌+◌, ◌-◌, ◌*◌, ◌/◌, List, length, slice_index}
+use Rattle.std.specs.Prelude.{ℕ, ◌+◌, ◌*◌, List, length, slice_index}
+use Rattle.std.specs.Int.{div_ceil}
 use Rattle.hpe_base.specs.Lists.{tabulate}
 use Rattle.hpe_base.specs.Parameters.{Parameters, block_bits}
 use Rattle.hpe_base.specs.Frames.{bit_stream}
-
--- a divided by b, rounded up
-abbrev pub div_ceil : ℕ → ℕ → ℕ
-div_ceil a b = (a + b - 1) / b
 
 -- the number of blocks that the frames in the octets fill
 abbrev pub block_count : Parameters → List ℕ → ℕ

@@ -1,10 +1,11 @@
 -- Codeword markers, the repeater and guard slots: the slots that are sent.
 use Rattle.std.specs.Prelude.{if◌then◌else◌, ℕ, ◌+◌, ◌-◌, ◌*◌, ◌/◌, ◌%◌, ◌==◌, List, ◌++◌, length, slice_index, nat_lt}
+use Rattle.std.specs.Int.{div_ceil}
 use Rattle.hpe_base.specs.Lists.{tabulate, joined}
 use Rattle.hpe_base.specs.Bits.{zeros}
 use Rattle.hpe_base.specs.Parameters.{Parameters, sending_slots, period_symbols, codeword_symbols, period_slots, symbol_slots, interleaver_depth}
 use Rattle.hpe_base.specs.Frames.{bit_stream}
-use Rattle.hpe_base.specs.Slicer.{block_count, div_ceil}
+use Rattle.hpe_base.specs.Slicer.{block_count}
 use Rattle.hpe_base.specs.Codeword.{word_symbols}
 use Rattle.hpe_base.specs.ChannelInterleaver.{interleaved_channel}
 
