@@ -1,0 +1,17 @@
+//! Sources and sinks of octets that count their faults.
+//!
+//! The signalling chain reads its input from a [`Source`] and writes its output to a [`Sink`]. Both are
+//! traits, so that a contract can name the octets that pass: those in memory tell them, those over the
+//! system's streams don't.
+#![tactic(auto)]
+
+mod device;
+mod feed;
+mod mem_sink;
+mod mem_source;
+mod system;
+
+pub use device::{Failed, NoMemory, Sink, Source};
+pub use mem_sink::MemSink;
+pub use mem_source::{MemSource, SureSource};
+pub use system::{OsSink, OsSource};
