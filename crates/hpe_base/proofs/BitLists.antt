@@ -1,7 +1,7 @@
 -- Lemmas on numbers as lists of bits.
 use Rattle.std.proofs.Common.{◌≡◌, ◌++◌, ◌+◌, ◌-◌, ◌*◌, ◌/◌, ◌%◌, ◌^◌, ◌<◌, ◌≤◌, ℕ, List, [], ◌∷◌, refl, length, length-append, get_or, sym, ◌∙◌, ap, arith, zero, suc, bit_xor}
 use Rattle.std.specs.Int.{bit_at}
-use Rattle.std.proofs.lemmas.Nat.{mod-pow-add, div-add-mod', mod_below}
+use Rattle.std.proofs.lemmas.Nat.{mod-pow-add, div-add-mod', mod_below, xor_lt}
 use Rattle.std.proofs.lemmas.Nat.Bits.{bit_at_xor, bit_at_cat_low, bit_at-suc, bit_at-lt, bit_at_lowest}
 use Rattle.std.proofs.lemmas.List.Elements.{All-append}
 use Rattle.hpe_base.specs.Lists.{joined}
@@ -78,6 +78,11 @@ add_front-zeros (suc w) n =
 
 pub xor_assoc : (x y z : ℕ) → xor x (xor y z) ≡ xor (xor x y) z
 xor_assoc x y z = omega arith
+
+-- the exclusive or of two bits
+pub xor_of_bits : (a b : ℕ) → a < 2 → b < 2 → bit_xor a b ≡ xor a b
+xor_of_bits a b h k =
+    omega (arith, xor_lt 1 a b h k, bit_at_lowest (bit_xor a b), bit_at_xor a b 0, bit_at_lowest a, bit_at_lowest b)
 
 -- to add ys and then xs, which is one longer, is to add their sum
 pub add_front-twice : (xs ys zs : List ℕ) → length xs ≡ suc (length ys) → add_front xs (add_front ys zs) ≡ add_front (add_front xs (ys ++ 0 ∷ [])) zs

@@ -1,0 +1,5 @@
+pub mod Register
+pub mod Sequence
+pub mod Mixing
+pub mod Division
+pub mod Closed

@@ -1,0 +1,66 @@
+// The code interleaver: a permutation of a codeword's bits by a polynomial of second degree.
+ghost use Rattle.std.specs.Prelude.{◌≡◌, ◌<◌, length};
+ghost use Rattle.hpe_base.specs.CodeInterleaver.{pi, IsInterleaved};
+ghost use Rattle.hpe_base.specs.Parameters.{codeword_bits};
+
+use hpe_base::{CODE_BITS, NoMemory};
+use std::alloc::Global;
+use std::marker::Model;
+
+/// The interleaver's polynomial is this factor of the place, and the next of its square, modulo the code bits.
+const LINEAR: u64 = 11;
+
+/// The factor of the place's square.
+const QUADRATIC: u64 = 210;
+
+/// The code interleaver of a codeword's 15,120 bits, as a table.
+#[derive(Drop)]
+pub struct CodeTables {
+    places: Vec<u16>,
+}
+
+impl Model for CodeTables {
+    ghost use Rattle.std.specs.Prelude.{◌≡◌, ◌<◌, ℕ, slice_index};
+    ghost use Rattle.std.specs.Vec.{vec_len};
+    ghost use Rattle.hpe_base.specs.CodeInterleaver.{pi};
+    ghost use Rattle.hpe_base.specs.Parameters.{codeword_bits};
+
+    ghost Value = { Unit {0} };
+
+    ghost view = { λ _. tt };
+
+    ghost invariant = { λ t. (vec_len t.places ≡ codeword_bits) × ((j : ℕ) → j < codeword_bits → slice_index t.places.items j ≡ pi j) };
+}
+
+impl CodeTables {
+    /// Makes the table, in 30,240 octets. It is the same for all links.
+    pub fn new(alloc: Global) -> Result<CodeTables, NoMemory> {
+        let mut places = Vec::with_capacity(alloc, CODE_BITS).map_err(|_| NoMemory)?;
+        for j in 0..CODE_BITS as u64 {
+            let place = (LINEAR * j + QUADRATIC * j * j) % CODE_BITS as u64;
+            places.push(place as u16).map_err(|_| NoMemory)?;
+        }
+        Ok(CodeTables { places })
+    }
+
+    /// The place of the code bit that goes to place `j`.
+    pub fn pi(&self, j: usize) -> usize
+        requires { j < codeword_bits }
+        ensures { result ≡ pi j }
+    {
+        self.places[j] as usize
+    }
+
+    /// Puts the value of place `pi(j)` at each place `j`, for the bits of a codeword or values that belong to them.
+    ///
+    /// Both have 15,120 places.
+    pub fn interleave<V: Copy>(&self, from: &[V], into: &mut [V])
+        requires from { length from.now ≡ codeword_bits }
+        requires into { length into.old ≡ codeword_bits }
+        ensures { IsInterleaved from.now into.new }
+    {
+        for (j, value) in into.iter_mut().enumerate() {
+            *value = from[self.pi(j)];
+        }
+    }
+}

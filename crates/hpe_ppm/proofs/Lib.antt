@@ -1,0 +1,2 @@
+mod RunningSums
+mod Numbers
