@@ -1,0 +1,6 @@
+pub mod Taking
+pub mod Streams
+pub mod OneRow
+pub mod Codewords
+pub mod Pending
+pub mod Asking

@@ -1,0 +1,11 @@
+use Rattle.hpe_base.specs.Slots.{pulses_of}
+use Rattle.hpe_cmd.proofs.Pending.{pending_ok, pieces_twice}
+use Rattle.hpe_cmd.proofs.sending.send_period.Goals as goal
+
+pub returns-clause-ok : goal.returns-clause-ok
+returns-clause-ok g c = λ start all h.
+    pending_ok c.send_symbols-2.result start _ _ _ _ (pieces_twice (pulses_of c.args.p.now) all _ _ c.args.word.now c.marker.ensures.value)
+    (c.send_symbols-2.ensures.ok start _ (c.in-Ok.ensures.ok start all h))
+
+pub returns-clause-cut : goal.returns-clause-cut
+returns-clause-cut g c = λ start all h. c.send_symbols-2.ensures.cut start _ (c.in-Ok.ensures.ok start all h)
