@@ -9,18 +9,22 @@ use Rattle.hpe_base.specs.Bits.{bits_of, number_of, xor, zeros, AreBits}
 use Rattle.hpe_base.specs.Check.{divide, add_front, check_bits}
 use Rattle.hpe_base.proofs.BitLists.{bits_of-xor, bits_of-mod, bits_of-double, add_front-twice, length-bits_of, are_bits-bits_of, add_front-zeros, number_of-bits_of}
 
-pub bits_of-shifted : (r : ℕ) → bits_of 32 (r * 2 % 2 ^ 32) ≡ bits_of 31 r ++ 0 ∷ []
+-- a register that is shifted up by one
+bits_of-shifted : (r : ℕ) → bits_of 32 (r * 2 % 2 ^ 32) ≡ bits_of 31 r ++ 0 ∷ []
 bits_of-shifted r = bits_of-mod 32 32 (r * 2) (omega arith) ∙ bits_of-double 31 r
 
-pub bits_of-split : (r : ℕ) → bits_of 32 r ≡ bit_at r 31 ∷ bits_of 31 r
+-- a register is its first bit and the others
+bits_of-split : (r : ℕ) → bits_of 32 r ≡ bit_at r 31 ∷ bits_of 31 r
 unfolding bits_of
 bits_of-split r = refl
 
-pub by_one : (xs : List ℕ) → map (λ g. 1 * g) xs ≡ xs
+-- a generator times 1 is the generator
+by_one : (xs : List ℕ) → map (λ g. 1 * g) xs ≡ xs
 by_one [] = refl
 by_one (x ∷ xs) = let first : 1 * x ≡ x = omega arith in let rest : map (λ g. 1 * g) xs ≡ xs = by_one xs in cc
 
-pub add_by_zero : (xs ys : List ℕ) → AreBits ys → add_front (map (λ g. 0 * g) xs) ys ≡ ys
+-- a generator times 0 adds nothing
+add_by_zero : (xs ys : List ℕ) → AreBits ys → add_front (map (λ g. 0 * g) xs) ys ≡ ys
 add_by_zero [] ys h = refl
 add_by_zero (x ∷ xs) [] h = refl
 add_by_zero (x ∷ xs) (y ∷ ys) h =
@@ -30,7 +34,7 @@ add_by_zero (x ∷ xs) (y ∷ ys) h =
     cc
 
 -- one step, over a register that is added to the front
-pub divide-more : (m top b : ℕ) (generator low rest : List ℕ) → length generator ≡ suc (length low) →
+divide-more : (m top b : ℕ) (generator low rest : List ℕ) → length generator ≡ suc (length low) →
     divide (suc m) generator (add_front (top ∷ low) (b ∷ rest)) ≡ divide m generator (add_front (add_front (map (λ g. xor top b * g) generator) (low ++ 0 ∷ [])) rest)
 divide-more m top b generator low rest h =
     let scaled : List ℕ = map (λ g. xor top b * g) generator in
@@ -42,10 +46,12 @@ abbrev pub GoesOn : ℕ → ℕ → List ℕ → ℕ → Type 0
 GoesOn check register bits n =
     divide (length bits - n) (bits_of 32 check) (add_front (bits_of 32 register) (drop n (bits ++ zeros 32))) ≡ check_bits check bits
 
+-- it holds of the register of ones at the start
 pub GoesOn-none : (check : ℕ) (bits : List ℕ) → GoesOn check (2 ^ 32 - 1) bits 0
 unfolding check_bits bits_of
 GoesOn-none check bits = let e : length bits - 0 ≡ length bits = omega arith in rw e refl
 
+-- it holds after a step of the division
 pub GoesOn-more : (check r s : ℕ) (bits : List ℕ) (n : ℕ) → n < length bits →
     bits_of 32 s ≡ add_front (map (λ g. xor (bit_at r 31) (get_or bits n 0) * g) (bits_of 32 check)) (bits_of 31 r ++ 0 ∷ []) →
     GoesOn check r bits n → GoesOn check s bits (n + 1)
@@ -68,6 +74,7 @@ GoesOn-more check r s bits n h e g =
     ∙ (sym (divide-more m (bit_at r 31) (get_or bits n 0) generator (bits_of 31 r) (drop (n + 1) all) long)
     ∙ (sym opened ∙ g))
 
+-- at the end the register is the check
 pub GoesOn-bits : (check r : ℕ) (bits : List ℕ) (n : ℕ) → n ≡ length bits → GoesOn check r bits n → bits_of 32 r ≡ check_bits check bits
 GoesOn-bits check r bits n e g =
     let none : length bits - n ≡ 0 = omega arith in
@@ -77,11 +84,13 @@ GoesOn-bits check r bits n e g =
     ∙ (ap (λ w. add_front (bits_of 32 r) w) rest ∙ add_front-zeros 32 r) in
     sym done ∙ g
 
+-- at the end the register is the number of the check
 pub GoesOn-all : (check r : ℕ) (bits : List ℕ) (n : ℕ) → r < 2 ^ 32 → n ≡ length bits → GoesOn check r bits n → r ≡ number_of (check_bits check bits)
 GoesOn-all check r bits n h e g =
     let small : r % 2 ^ 32 ≡ r = mod-eq_of_lt h in
     sym small ∙ (sym (number_of-bits_of 32 r) ∙ ap number_of (GoesOn-bits check r bits n e g))
 
+-- the step where the register's first bit and the bit add to 0
 pub divided_same : (check r b : ℕ) → r < 2 ^ 32 → b < 2 → r / 2 ^ 31 ≡ b →
     bits_of 32 (r * 2 % 2 ^ 32) ≡ add_front (map (λ g. xor (bit_at r 31) b * g) (bits_of 32 check)) (bits_of 31 r ++ 0 ∷ [])
 divided_same check r b h k e =
@@ -90,6 +99,7 @@ divided_same check r b h k e =
     bits_of-shifted r ∙ (sym (add_by_zero (bits_of 32 check) (bits_of 31 r ++ 0 ∷ []) bits)
     ∙ ap (λ x. add_front (map (λ g. x * g) (bits_of 32 check)) (bits_of 31 r ++ 0 ∷ [])) (sym zero_is))
 
+-- the step where they add to 1
 pub divided_other : (check r b : ℕ) → r < 2 ^ 32 → b < 2 → (r / 2 ^ 31 ≡ b → ⊥) →
     bits_of 32 (bit_xor (r * 2 % 2 ^ 32) check) ≡ add_front (map (λ g. xor (bit_at r 31) b * g) (bits_of 32 check)) (bits_of 31 r ++ 0 ∷ [])
 divided_other check r b h k e =

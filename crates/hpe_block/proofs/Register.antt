@@ -10,9 +10,11 @@ use Rattle.std.proofs.lemmas.List.Sums.{sum_by-append}
 use Rattle.hpe_base.specs.Lists.{tabulate}
 use Rattle.hpe_base.proofs.Tabulated.{tabulate-none, tabulate-suc, tabulate-same}
 
+-- a sum over one more place
 sum-tabulate-suc : (n : ℕ) (f : ℕ → ℕ) → sum (tabulate (suc n) f) ≡ sum (tabulate n f) + f n
 sum-tabulate-suc n f = ap sum (tabulate-suc n f) ∙ (sum_by-append (λ x. x) (tabulate n f) (f n ∷ []) ∙ omega arith)
 
+-- the set bits of a number of one bit
 ones_of_bit : (b : ℕ) → b < 2 → count_ones b ≡ b
 unfolding ones ones_in
 ones_of_bit zero h = refl
@@ -32,6 +34,7 @@ ones_below (suc w) n =
     ones_cat w (bit_at n w) (n % 2 ^ w) (mod_below n (2 ^ w) (pow_pos w)) in
     ap count_ones split ∙ omega (arith, both, top, ones_below w n, sum-tabulate-suc w (bit_at n))
 
+-- the lesser of two bits is their product
 least_is_product : (a b : ℕ) → a < 2 → b < 2 → min a b ≡ b * a
 least_is_product zero b h k = omega arith
 least_is_product (suc zero) b h k = omega arith
@@ -55,12 +58,14 @@ stepped_is taps register h =
     let top : bit_and (count_ones (bit_and register taps)) 1 * 128 % 256 ≡ count_ones (bit_and register taps) % 2 * 2 ^ 7 = omega arith in
     ap (λ n. bit_or n (register / 2)) top ∙ or_shifted (count_ones (bit_and register taps) % 2) 7 (register / 2) (omega arith)
 
+-- the bits below it are those of before, moved by one
 pub stepped_below : (taps register i : ℕ) → register < 2 ^ 8 → i < 7 → bit_at (stepped taps register) i ≡ bit_at register (i + 1)
 stepped_below taps register i h k =
     let next : suc i ≡ i + 1 = omega arith in
     ap (λ n. bit_at n i) (stepped_is taps register h)
     ∙ (bit_at_cat_low _ 7 (register / 2) i k ∙ (sym (bit_at-suc register i) ∙ ap (bit_at register) next))
 
+-- the bit that comes in is the sum modulo 2 of those that the taps select
 pub stepped_top : (taps register : ℕ) → register < 2 ^ 8 → bit_at (stepped taps register) 7 ≡ sum (tabulate 8 (λ i. bit_at taps i * bit_at register i)) % 2
 stepped_top taps register h =
     let parity : ℕ = count_ones (bit_and register taps) % 2 in
@@ -68,6 +73,7 @@ stepped_top taps register h =
     ap (λ n. bit_at n 7) (stepped_is taps register h)
     ∙ (bit_at_cat_high parity 7 (register / 2) 7 (omega arith) (omega arith) ∙ (bit ∙ ap (λ n. n % 2) (ones_selected taps register h)))
 
+-- the bits above a bit that is appended
 bit_at-appended : (a b i : ℕ) → b < 2 → bit_at (a * 2 + b) (suc i) ≡ bit_at a i
 bit_at-appended a b i h = let half : (a * 2 + b) / 2 ≡ a = omega arith in bit_at-suc (a * 2 + b) i ∙ ap (λ n. bit_at n i) half
 

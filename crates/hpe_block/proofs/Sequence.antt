@@ -12,6 +12,7 @@ use Rattle.hpe_base.proofs.Tabulated.{tabulate-same}
 use Rattle.hpe_base.proofs.BitLists.{length-bits_of, get_or-bits_of}
 use Rattle.hpe_block.proofs.Register.{bit_at-reversed}
 
+-- the sequence with its seed is eight longer
 length-pseudo_random : (taps seed n : ℕ) → length (pseudo_random taps seed n) ≡ 8 + n
 unfolding pseudo_random
 length-pseudo_random taps seed zero = length-bits_of 8 seed
@@ -31,6 +32,7 @@ get_or-pseudo_random taps seed (suc m) n j h =
 abbrev pub HoldsFrom : ℕ → ℕ → ℕ → ℕ → Type 0
 HoldsFrom taps seed n register = (i : ℕ) → i < 8 → bit_at register i ≡ get_or (pseudo_random taps seed n) (n + i) 0
 
+-- the reversed seed holds the bits from place 0 on
 pub holds_seed : (taps seed : ℕ) → HoldsFrom taps seed 0 (reverse_bits_onto 8 seed 0)
 unfolding pseudo_random
 holds_seed taps seed i h = bit_at-reversed 8 seed 0 i h ∙ sym (ap (λ k. get_or (bits_of 8 seed) k 0) (omega arith) ∙ get_or-bits_of 8 seed i 0 h)
@@ -44,6 +46,7 @@ next_is taps seed n register holds =
     let place : n + i ≡ length (pseudo_random taps seed n) - 8 + i = omega arith in
     ap (λ v. bit_at taps i * v) (holds i below ∙ ap (λ k. get_or (pseudo_random taps seed n) k 0) place)))
 
+-- after a step it holds the bits from the next place on
 pub holds_more : (taps seed n register next : ℕ) → ((i : ℕ) → i < 7 → bit_at next i ≡ bit_at register (i + 1)) →
     bit_at next 7 ≡ sum (tabulate 8 (λ i. bit_at taps i * bit_at register i)) % 2 →
     HoldsFrom taps seed n register → HoldsFrom taps seed (n + 1) next

@@ -8,8 +8,8 @@ use crate::check::check_of;
 use crate::randomiser::randomise;
 use hpe_base::Profile;
 
-/// The bits of a number.
-const NUMBER_BITS: usize = u32::BITS as usize;
+/// The bits of a `u32`, as which the check is worked out.
+const WORD_BITS: usize = u32::BITS as usize;
 
 /// Writes the 32 bits of a number, most significant first.
 pub(crate) fn put_number(number: u32, into: &mut [u8])
@@ -17,8 +17,8 @@ pub(crate) fn put_number(number: u32, into: &mut [u8])
     ensures value { into.new ≡ bits_of 32 number }
     ensures bits { AreBits into.new }
 {
-    for i in 0..NUMBER_BITS {
-        into[i] = ((number >> (NUMBER_BITS - 1 - i)) & 1) as u8;
+    for i in 0..WORD_BITS {
+        into[i] = ((number >> (WORD_BITS - 1 - i)) & 1) as u8;
     }
 }
 
@@ -36,7 +36,7 @@ pub fn close_block(p: &Profile, block: &[u8], into: &mut [u8])
     let (information, rest) = into.split_at_mut(block.len());
     information.copy_from_slice(block);
     randomise(p, information);
-    let (check, termination) = rest.split_at_mut(NUMBER_BITS);
+    let (check, termination) = rest.split_at_mut(WORD_BITS);
     put_number(check_of(p.check(), information), check);
     termination.fill(0);
 }

@@ -18,7 +18,7 @@ fn divide_bit(check: u32, register: u32, bit: u8) -> u32
     }
 }
 
-/// The cyclic redundancy check of a list of bits: 32 bits as a number, the first most significant.
+/// The cyclic redundancy check of a list of bits, as a number of 32 bits of which the most significant is sent first.
 ///
 /// The generator is `x^32` and the polynomial of the 32 bits of `check`.
 pub fn check_of(check: u32, bits: &[u8]) -> u32

@@ -1,5 +1,5 @@
 //! What is done to a block of information bits before the convolutional code: it is randomised, and its check and the
-//! termination are attached.
+//! termination are attached. A bit is a `u8` that is 0 or 1.
 #![tactic(auto)]
 
 mod block;

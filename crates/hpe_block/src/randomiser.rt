@@ -1,5 +1,5 @@
-// The pseudo-randomiser: a shift register of eight bits, with the sequence's next bit least significant. To step, the
-// register is shifted by one and the sum of the bits that the taps select comes in at the top.
+// The pseudo-randomiser. A shift register holds the next eight bits of its sequence, the first least significant, so
+// that the taps select by their own bits. At each step the sum of those that they select comes in at the top.
 ghost use Rattle.std.specs.Prelude.{◌≡◌, ◌≤◌, ◌<◌, ◌+◌, ◌*◌, ◌%◌, ℕ, length, sum};
 ghost use Rattle.std.specs.Int.{bit_at};
 ghost use Rattle.hpe_base.specs.Lists.{tabulate};
@@ -18,13 +18,14 @@ fn stepped(taps: u8, register: u8) -> u8
     (parity << 7) | (register >> 1)
 }
 
-/// Adds the pseudo-random sequence, which restarts at each block, to the bits of a block or of its start, modulo 2.
+/// The pseudo-randomiser: adds its sequence, from the start, to the bits of a block or of a part at its start.
 ///
-/// To do it again gives the bits as they were.
+/// The sum is modulo 2, so to do it again gives the bits as they were.
 pub fn randomise(p: &Profile, bits: &mut [u8])
     requires bits { AreBits bits.old }
     requires size { length bits.old ≤ block_bits p.now.rate }
     ensures sum { bits.new ≡ randomised p.now bits.old }
+    ensures twice { randomised p.now bits.new ≡ bits.old }
     ensures bits { AreBits bits.new }
 {
     let taps = p.taps();

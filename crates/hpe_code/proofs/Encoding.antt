@@ -9,6 +9,7 @@ use Rattle.hpe_base.proofs.BitLists.{xor_of_bits}
 use Rattle.hpe_base.proofs.Tabulated.{joined-more, length-joined-le}
 use Rattle.std.proofs.Math.Seq.{take-length}
 
+-- after t steps: the column that comes next, the place up to which the code bits stand, and the two bits before
 pub record Encoding (columns : List (List Bool)) (u kept : List ℕ) (t column at last before : ℕ) : Type 0 where
   pub column_is : column ≡ t % length columns
   pub place : at ≡ length (joined t (kept_at columns u))
@@ -18,23 +19,29 @@ pub record Encoding (columns : List (List Bool)) (u kept : List ℕ) (t column a
   pub last_bit : last < 2
   pub before_bit : before < 2
 
-pub earlier_none : (u : List ℕ) (t : ℕ) → earlier u t 0 ≡ get_or u t 0
+-- the bit that enters
+earlier_none : (u : List ℕ) (t : ℕ) → earlier u t 0 ≡ get_or u t 0
 earlier_none u t = grind (arith, nat_tests)
 
-pub earlier_one : (u : List ℕ) (t : ℕ) → earlier u (t + 1) 1 ≡ get_or u t 0
+-- one step later it is the last
+earlier_one : (u : List ℕ) (t : ℕ) → earlier u (t + 1) 1 ≡ get_or u t 0
 earlier_one u t = grind (arith, nat_tests)
 
-pub earlier_two : (u : List ℕ) (t : ℕ) → earlier u (t + 1) 2 ≡ earlier u t 1
+-- and the last is the one before it
+earlier_two : (u : List ℕ) (t : ℕ) → earlier u (t + 1) 2 ≡ earlier u t 1
 earlier_two u t = grind (arith, nat_tests)
 
+-- it holds at the start
 pub Encoding-none : (columns : List (List Bool)) (u kept : List ℕ) → Encoding columns u kept 0 0 0 0 0
 unfolding joined
 Encoding-none columns u kept = record { column_is = sym (zero-mod (length columns)); place = refl; written = refl; last_is = refl; before_is = refl; last_bit = omega arith; before_bit = omega arith }
 
+-- there is such a column
 pub column_below : (columns : List (List Bool)) (u kept : List ℕ) (t column at last before : ℕ) → 1 ≤ length columns → Encoding columns u kept t column at last before →
     column < length columns
 column_below columns u kept t column at last before some e = rw e.column_is (mod_below t (length columns) (omega arith))
 
+-- the outputs as the code works them out
 outputs_are : (bit last before : ℕ) → bit < 2 → last < 2 → before < 2 →
     bit_xor bit before ∷ bit_xor (bit_xor bit before) last ∷ bit_xor (bit_xor bit before) last ∷ []
     ≡ (bit + before) % 2 ∷ (bit + last + before) % 2 ∷ (bit + last + before) % 2 ∷ []
@@ -51,6 +58,7 @@ kept_at_is columns u kept t column at last before e bit =
     ap (selected (get_or columns column [])) (outputs_are (get_or u t 0) last before bit e.last_bit e.before_bit)
     ∙ rw (e.column_is, e.last_is, e.before_is, ← earlier_none u t) refl
 
+-- there is room for it
 pub kept_at_fits : (columns : List (List Bool)) (u kept : List ℕ) (t column at last before : ℕ) (bits : List ℕ) → Encoding columns u kept t column at last before →
     t < length u → length kept ≡ length (code_bits columns u) → bits ≡ kept_at columns u t → at + length bits ≤ length kept
 kept_at_fits columns u kept t column at last before bits e h k b =
@@ -61,6 +69,7 @@ kept_at_fits columns u kept t column at last before bits e h k b =
     let place : at ≡ length (joined t f) = e.place in
     omega arith
 
+-- it holds after one more step
 pub Encoding-more : (columns : List (List Bool)) (u kept now : List ℕ) (t column next_column at next last before : ℕ) (bits : List ℕ) → Encoding columns u kept t column at last before →
     get_or u t 0 < 2 → next_column ≡ (column + 1) % length columns → bits ≡ kept_at columns u t → next ≡ at + length bits → take next now ≡ take at kept ++ bits →
     Encoding columns u now (t + 1) next_column next (get_or u t 0) last
@@ -79,6 +88,7 @@ Encoding-more columns u kept now t column next_column at next last before bits e
       before_bit = e.last_bit;
     }
 
+-- at the end the code bits stand there
 pub Encoding-all : (columns : List (List Bool)) (u kept : List ℕ) (t column at last before : ℕ) → t ≡ length u → length kept ≡ length (code_bits columns u) →
     Encoding columns u kept t column at last before → kept ≡ code_bits columns u
 Encoding-all columns u kept t column at last before end size e =

@@ -5,10 +5,11 @@ use Rattle.std.proofs.Math.ListN.{set}
 use Rattle.hpe_base.specs.ConvolutionalCode.{selected}
 
 -- the bits of one place
-abbrev pub one : Bool → ℕ → List ℕ
+abbrev one : Bool → ℕ → List ℕ
 one flag bit = cond flag (bit ∷ []) []
 
-pub selected-more : (flags : List Bool) (bits : List ℕ) (i : ℕ) → i < length flags → i < length bits →
+-- one more place
+selected-more : (flags : List Bool) (bits : List ℕ) (i : ℕ) → i < length flags → i < length bits →
     selected (take (i + 1) flags) (take (i + 1) bits) ≡ selected (take i flags) (take i bits) ++ one (get_or flags i false) (get_or bits i 0)
 selected-more [] bits i h k = absurd (omega arith)
 selected-more (f ∷ fs) [] i h k = absurd (omega arith)
@@ -18,18 +19,21 @@ selected-more (f ∷ fs) (b ∷ bs) (suc i) h k =
     let ih : selected (take (i + 1) fs) (take (i + 1) bs) ≡ selected (take i fs) (take i bs) ++ one (get_or fs i false) (get_or bs i 0) = selected-more fs bs i (omega arith) (omega arith) in
     rw (e, ih) (sym (append_assoc (one f b) (selected (take i fs) (take i bs)) _))
 
-pub length-selected-le : (flags : List Bool) (bits : List ℕ) (i : ℕ) → length (selected (take i flags) (take i bits)) ≤ length (selected flags bits)
+-- the first places give no more than all
+length-selected-le : (flags : List Bool) (bits : List ℕ) (i : ℕ) → length (selected (take i flags) (take i bits)) ≤ length (selected flags bits)
 length-selected-le flags bits zero = omega arith
 length-selected-le [] bits (suc i) = omega arith
 length-selected-le (f ∷ fs) [] (suc i) = omega arith
 length-selected-le (f ∷ fs) (b ∷ bs) (suc i) =
     omega (arith, length-selected-le fs bs i, length-append (one f b) (selected (take i fs) (take i bs)), length-append (one f b) (selected fs bs))
 
-pub selected-set : (flags : List Bool) (bits : List ℕ) (i : ℕ) → i < length flags → i < length bits → get_or flags i false ≡ true →
+-- one more place whose flag is set
+selected-set : (flags : List Bool) (bits : List ℕ) (i : ℕ) → i < length flags → i < length bits → get_or flags i false ≡ true →
     selected (take (i + 1) flags) (take (i + 1) bits) ≡ selected (take i flags) (take i bits) ++ get_or bits i 0 ∷ []
 selected-set flags bits i h k e = selected-more flags bits i h k ∙ ap (λ f. selected (take i flags) (take i bits) ++ one f (get_or bits i 0)) e
 
-pub selected-unset : (flags : List Bool) (bits : List ℕ) (i : ℕ) → i < length flags → i < length bits → get_or flags i false ≡ false →
+-- one more place whose flag is not set
+selected-unset : (flags : List Bool) (bits : List ℕ) (i : ℕ) → i < length flags → i < length bits → get_or flags i false ≡ false →
     selected (take (i + 1) flags) (take (i + 1) bits) ≡ selected (take i flags) (take i bits)
 selected-unset flags bits i h k e =
     selected-more flags bits i h k ∙ (ap (λ f. selected (take i flags) (take i bits) ++ one f (get_or bits i 0)) e ∙ append-nil _)
@@ -40,6 +44,7 @@ PutSoFar flags bits start at i next now =
     (next ≡ at + length (selected (take i flags) (take i bits)))
     × (take next now ≡ take at start ++ selected (take i flags) (take i bits))
 
+-- where a flag is set there is room for its bit
 pub room_for_one : (flags : List Bool) (bits start : List ℕ) (at i next : ℕ) (now : List ℕ) →
     i < length flags → i < length bits → at + length (selected flags bits) ≤ length now → get_or flags i false ≡ true →
     PutSoFar flags bits start at i next now → next < length now
@@ -48,6 +53,7 @@ room_for_one flags bits start at i next now h k room flag so_far =
     ap length (selected-set flags bits i h k flag) ∙ length-append _ _ in
     omega (arith, length-selected-le flags bits (i + 1), so_far.0)
 
+-- it holds after a place whose flag is set
 pub put-set : (flags : List Bool) (bits start : List ℕ) (at i : ℕ) (now : List ℕ) (next next' : ℕ) (now' : List ℕ) →
     i < length flags → i < length bits → next < length now → get_or flags i false ≡ true → next' ≡ next + 1 → now' ≡ set now next (get_or bits i 0) →
     PutSoFar flags bits start at i next now → PutSoFar flags bits start at (i + 1) next' now'
@@ -60,6 +66,7 @@ put-set flags bits start at i now next next' now' h k room flag next_is now_is s
       rw (e, now_is, more) (front ∙ (ap (λ w. w ++ get_or bits i 0 ∷ []) so_far.1 ∙ append_assoc (take at start) (selected (take i flags) (take i bits)) _)),
     )
 
+-- it holds after a place whose flag is not set
 pub put-unset : (flags : List Bool) (bits start : List ℕ) (at i : ℕ) (now : List ℕ) (next next' : ℕ) (now' : List ℕ) →
     i < length flags → i < length bits → get_or flags i false ≡ false → next' ≡ next → now' ≡ now →
     PutSoFar flags bits start at i next now → PutSoFar flags bits start at (i + 1) next' now'

@@ -7,10 +7,10 @@ use hpe_base::{CODE_BITS, NoMemory};
 use std::alloc::Global;
 use std::marker::Model;
 
-/// The interleaver's polynomial is this factor of the place, and the next of its square, modulo the code bits.
+/// The coefficient of `j` in the polynomial that says which code bit goes to place `j`, modulo the code bits.
 const LINEAR: u64 = 11;
 
-/// The factor of the place's square.
+/// The coefficient of `j^2`.
 const QUADRATIC: u64 = 210;
 
 /// The code interleaver of a codeword's 15,120 bits, as a table.
