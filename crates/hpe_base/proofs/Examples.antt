@@ -1,6 +1,6 @@
 -- Worked numbers of the definitions.
 use Rattle.std.proofs.Common.{◌≡◌, ◌+◌, ◌*◌, ◌/◌, ◌%◌, ℕ, List, [], ◌∷◌, true, false, refl, map}
-use Rattle.std.specs.Prelude.{replicate}
+use Rattle.std.specs.Prelude.{replicate, slice_index}
 use Rattle.hpe_base.specs.Lists.{tabulate, joined}
 use Rattle.hpe_base.specs.Bits.{bits_of, number_of, zeros}
 use Rattle.hpe_base.specs.Parameters.{basic, period_slots}
@@ -12,6 +12,8 @@ use Rattle.hpe_base.specs.Accumulator.{accumulated}
 use Rattle.hpe_base.specs.Mapper.{symbols_of}
 use Rattle.hpe_base.specs.ChannelInterleaver.{interleaved_channel, deinterleaved_channel}
 use Rattle.hpe_base.specs.Slots.{pulses_of}
+use Rattle.hpe_base.specs.MarkerSearch.{marker_sum, least_greatest}
+use Rattle.hpe_base.specs.ReceivedWords.{symbol_sums}
 use Rattle.hpe_base.specs.declared.profile.Order.TheVariants.{P4, P16}
 
 -- the built-in codeword marker follows its formula
@@ -68,3 +70,17 @@ channel_undone = refl
 pulses : pulses_of (record basic { order = P4; repeat = 2 }) 2 ≡ 0 ∷ 0 ∷ 1 ∷ 0 ∷ 0 ∷ 0 ∷ 0 ∷ 1 ∷ 0 ∷ 0 ∷ []
 unfolding pulses_of tabulate
 pulses = refl
+
+-- two sendings of four positions and one guard slot: position by position, the guard slots left out
+sums : symbol_sums (record basic { order = P4; repeat = 2 }) (1 ∷ 2 ∷ 3 ∷ 4 ∷ 9 ∷ 10 ∷ 20 ∷ 30 ∷ 40 ∷ 9 ∷ []) 0 ≡ 11 ∷ 22 ∷ 33 ∷ 44 ∷ []
+unfolding symbol_sums tabulate
+sums = refl
+
+-- a marker of the symbols 2 and 0, each sent twice: the counts at places 2, 7, 10 and 15, and then from slot 1 on
+marker_sums : map (marker_sum (record basic { order = P4; repeat = 2; marker = 2 ∷ 0 ∷ [] }) (tabulate 20 (λ i. i))) (0 ∷ 1 ∷ 5 ∷ []) ≡ 34 ∷ 38 ∷ 34 ∷ []
+unfolding marker_sum tabulate
+marker_sums = refl
+
+-- the least of the places of the greatest value
+least : map (least_greatest (slice_index (3 ∷ 5 ∷ 1 ∷ 5 ∷ 2 ∷ []))) (1 ∷ 2 ∷ 5 ∷ []) ≡ 0 ∷ 1 ∷ 1 ∷ []
+least = refl

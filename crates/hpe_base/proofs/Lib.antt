@@ -4,4 +4,6 @@ pub mod ParameterLemmas
 pub mod KeptLength
 pub mod Channels
 pub mod Periods
+pub mod EachPlace
+pub mod Validity
 mod Examples

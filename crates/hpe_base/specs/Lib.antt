@@ -1,6 +1,7 @@
 pub mod Lists
 pub mod Bits
 pub mod Parameters
+pub mod ValuesView
 pub mod View
 pub mod Frames
 pub mod Slicer
@@ -14,3 +15,7 @@ pub mod Mapper
 pub mod Codeword
 pub mod ChannelInterleaver
 pub mod Slots
+pub mod Validity
+pub mod MarkerSearch
+pub mod ReceivedWords
+pub mod Geometry

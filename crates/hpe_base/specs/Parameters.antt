@@ -79,6 +79,32 @@ abbrev pub flags_set : List Bool → ℕ
 flags_set [] = 0
 flags_set (flag ∷ flags) = (if flag then 1 else 0) + flags_set flags
 
+-- the parameters are within their ranges
+pub record IsInRange (p : Parameters) : Type 0 where
+  pub frame_low : 1 ≤ p.frame_octets
+  pub frame_high : p.frame_octets ≤ 65536
+  pub frame_marker_low : 1 ≤ p.frame_marker
+  pub frame_marker_high : p.frame_marker < 2 ^ 32
+  pub taps_high : p.taps < 256
+  pub seed_high : p.seed < 256
+  pub check_odd : p.check % 2 ≡ 1
+  pub check_high : p.check < 2 ^ 32
+  pub columns_low : 1 ≤ length p.columns
+  pub columns_high : length p.columns ≤ 12
+  pub columns_whole : All (λ column. length column ≡ 3) p.columns
+  pub rows_low : 1 ≤ p.rows
+  pub rows_high : p.rows ≤ 64
+  pub delay_low : 1 ≤ p.delay
+  pub delay_high : p.delay ≤ 2 ^ 23
+  pub marker_low : 1 ≤ length p.marker
+  pub marker_high : length p.marker ≤ 64
+  pub repeat_low : 1 ≤ p.repeat
+  pub repeat_high : p.repeat ≤ 32
+  pub rounds_low : 1 ≤ p.rounds
+  pub rounds_high : p.rounds ≤ 64
+  pub search_low : 1 ≤ p.search
+  pub search_high : p.search ≤ 4
+
 -- the parameters are within their ranges and agree with each other
 pub record IsValid (p : Parameters) : Type 0 where
   pub frame_low : 1 ≤ p.frame_octets

@@ -1,7 +1,10 @@
-ghost use Rattle.std.specs.Prelude.{◌≡◌, ◌≤◌, length};
+ghost use Rattle.std.specs.Prelude.{◌≡◌};
+ghost use Rattle.hpe_base.specs.Validity.{profile_of};
 ghost use Rattle.hpe_base.specs.Parameters.{symbol_bits, positions, codeword_symbols, code_steps, block_bits, IsValid, basic};
 
-use arrayvec::ArrayVec;
+use crate::fault::ProfileFault;
+use crate::fields::{Fields, first_out_of_range};
+use crate::values::{Values, filled};
 use std::marker::Model;
 
 /// The code bits of a codeword.
@@ -12,12 +15,6 @@ const CHECK_BITS: usize = 32;
 
 /// The zero bits that end the convolutional code.
 const TERMINATION_BITS: usize = 2;
-
-/// The puncturing columns that a profile has room for.
-const MOST_COLUMNS: usize = 12;
-
-/// The symbols of a codeword marker that a profile has room for.
-const MOST_MARKER_SYMBOLS: usize = 64;
 
 /// The order of pulse-position modulation: the number of pulse positions of a symbol.
 #[derive(Clone, Copy, Debug, PartialEq, Eq)]
@@ -100,23 +97,10 @@ impl Rate {
 
 /// The parameters of a link. Sender and receiver need the same.
 ///
-/// Each profile is valid: its fields are within their ranges and agree with each other.
+/// Each profile is valid: its values are within their ranges and agree with each other.
 #[derive(Drop)]
 pub struct Profile {
-    order: Order,
-    rate: Rate,
-    frame_octets: usize,
-    frame_marker: u32,
-    taps: u8,
-    seed: u8,
-    check: u32,
-    columns: ArrayVec<[bool; 3], MOST_COLUMNS>,
-    rows: usize,
-    delay: usize,
-    marker: ArrayVec<u8, MOST_MARKER_SYMBOLS>,
-    repeat: usize,
-    rounds: u32,
-    search: usize,
+    values: Values,
 }
 
 impl Model for Profile {
@@ -134,24 +118,28 @@ impl Model for Profile {
 /// The default codeword marker at order 16: symbol `i` is `5 i (i + 1) / 2` modulo 16.
 const MARKER_16: [u8; 16] = [0, 5, 15, 14, 2, 11, 9, 12, 4, 1, 3, 10, 6, 7, 13, 8];
 
-/// The values in a vector of fixed room.
-fn filled<T: Copy + Default, const N: usize>(values: &[T]) -> ArrayVec<T, N>
-    requires { length values.now ≤ N }
-    ensures { result.items ≡ values.now }
-{
-    let mut all = ArrayVec::new();
-    match all.try_extend_from_slice(values) {
-        Ok(()) => all,
-        Err(_) => unreachable!(),
-    }
-}
-
 impl Profile {
+    /// The profile that fields name, or why they name none: the first key whose value is out of its range or, where
+    /// there is none, the first rule between values that fails.
+    #[tactic(auto, unfolding(crate::specs::Validity::profile_of))]
+    pub fn new(fields: &Fields) -> Result<Profile, ProfileFault>
+        ensures { result ≡ profile_of fields.now }
+    {
+        if let Some(key) = first_out_of_range(fields) {
+            return Err(ProfileFault::Range(key));
+        }
+        let values = Values::of(fields);
+        match values.first_broken() {
+            Some(rule) => Err(ProfileFault::Tie(rule)),
+            None => Ok(Profile { values }),
+        }
+    }
+
     /// The built-in profile: order 16, rate 1/3, frames of 100 octets, and every default.
     pub fn basic() -> Profile
         ensures { result ≡ basic }
     {
-        Profile {
+        let values = Values {
             order: Order::P16,
             rate: Rate::Third,
             frame_octets: 100,
@@ -166,6 +154,16 @@ impl Profile {
             repeat: 1,
             rounds: 16,
             search: 1,
+        };
+        Profile { values }
+    }
+
+    /// An equal profile.
+    pub fn copy(&self) -> Profile
+        ensures { result ≡ self.now }
+    {
+        Profile {
+            values: self.values.copy(),
         }
     }
 
@@ -174,7 +172,7 @@ impl Profile {
         ensures value { result ≡ self.now.order }
         ensures valid { IsValid self.now }
     {
-        self.order
+        self.values.order
     }
 
     /// The rate of the code.
@@ -182,7 +180,7 @@ impl Profile {
         ensures value { result ≡ self.now.rate }
         ensures valid { IsValid self.now }
     {
-        self.rate
+        self.values.rate
     }
 
     /// The octets of a transfer frame, 1 to 65,536.
@@ -190,42 +188,42 @@ impl Profile {
         ensures value { result ≡ self.now.frame_octets }
         ensures valid { IsValid self.now }
     {
-        self.frame_octets
+        self.values.frame_octets
     }
 
     /// The 32 bits that are attached before each transfer frame, not all zero.
     pub fn frame_marker(&self) -> u32
         ensures { result ≡ self.now.frame_marker }
     {
-        self.frame_marker
+        self.values.frame_marker
     }
 
     /// The taps of the pseudo-randomiser: the bit of value `2^i` selects the bit that stands `8 - i` places back.
     pub fn taps(&self) -> u8
         ensures { result ≡ self.now.taps }
     {
-        self.taps
+        self.values.taps
     }
 
     /// The first eight bits of the pseudo-random sequence, most significant first.
     pub fn seed(&self) -> u8
         ensures { result ≡ self.now.seed }
     {
-        self.seed
+        self.values.seed
     }
 
     /// The lower 32 coefficients of the check's generator, highest power first; the coefficient of `x^32` is 1.
     pub fn check(&self) -> u32
         ensures { result ≡ self.now.check }
     {
-        self.check
+        self.values.check
     }
 
     /// The puncturing columns, 1 to 12: which of a step's three code bits are kept. They serve in turn.
     pub fn columns(&self) -> &[[bool; 3]]
         ensures { result.now ≡ self.now.columns }
     {
-        self.columns.as_slice()
+        self.values.columns.as_slice()
     }
 
     /// The rows of the channel interleaver, 1 to 64. They divide the symbols of a codeword.
@@ -233,7 +231,7 @@ impl Profile {
         ensures value { result ≡ self.now.rows }
         ensures valid { IsValid self.now }
     {
-        self.rows
+        self.values.rows
     }
 
     /// By how many turns of the channel interleaver each row delays more than the row before it, 1 to 8,388,608.
@@ -241,7 +239,7 @@ impl Profile {
         ensures value { result ≡ self.now.delay }
         ensures valid { IsValid self.now }
     {
-        self.delay
+        self.values.delay
     }
 
     /// The symbols of the codeword marker, 1 to 64, each below the order's slots.
@@ -249,7 +247,7 @@ impl Profile {
         ensures value { result.now ≡ self.now.marker }
         ensures valid { IsValid self.now }
     {
-        self.marker.as_slice()
+        self.values.marker.as_slice()
     }
 
     /// How often each symbol is sent, 1 to 32.
@@ -257,7 +255,7 @@ impl Profile {
         ensures value { result ≡ self.now.repeat }
         ensures valid { IsValid self.now }
     {
-        self.repeat
+        self.values.repeat
     }
 
     /// The most rounds that the decoder makes for a codeword, 1 to 64.
@@ -265,7 +263,7 @@ impl Profile {
         ensures value { result ≡ self.now.rounds }
         ensures valid { IsValid self.now }
     {
-        self.rounds
+        self.values.rounds
     }
 
     /// The most periods that the marker search adds up, 1 to 4.
@@ -273,6 +271,6 @@ impl Profile {
         ensures value { result ≡ self.now.search }
         ensures valid { IsValid self.now }
     {
-        self.search
+        self.values.search
     }
 }

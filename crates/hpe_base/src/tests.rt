@@ -1,5 +1,31 @@
-use crate::{Order, Profile, Rate};
+mod measures;
+mod validity;
+
+use crate::{Fields, Order, Profile, Rate};
 use std::test::Fail;
+
+/// The codeword marker of the built-in profile.
+pub const MARKER: [i64; 16] = [0, 5, 15, 14, 2, 11, 9, 12, 4, 1, 3, 10, 6, 7, 13, 8];
+
+/// The fields of the built-in profile.
+pub fn basic_fields<'a>(marker: &'a [i64]) -> Fields<'a> {
+    Fields {
+        order: 16,
+        rate: "1/3",
+        frame_octets: 100,
+        frame_marker: 449_838_109,
+        taps: 169,
+        seed: 255,
+        check: 537_149_449,
+        columns: "111",
+        rows: 1,
+        delay: 1,
+        marker,
+        repeat: 1,
+        rounds: 16,
+        search: 1,
+    }
+}
 
 #[test]
 fn orders_and_rates(rt: HostRuntime) {

@@ -1,0 +1,48 @@
+//! The measures of a link, which follow from its profile.
+ghost use Rattle.std.specs.Prelude.{◌≡◌};
+ghost use Rattle.hpe_base.specs.Geometry.{measures_of};
+
+use crate::profile::Profile;
+
+/// The measures of a link.
+#[derive(Clone, Copy, Debug, PartialEq, Eq)]
+pub struct Measures {
+    /// The bits that enter the convolutional code for a codeword.
+    pub steps: usize,
+    /// The information bits of a codeword.
+    pub block: usize,
+    /// The symbols of a codeword, without the codeword marker.
+    pub symbols: usize,
+    /// The slots of a symbol, with its repeats and guard slots.
+    pub symbol_slots: usize,
+    /// The slots of the codeword marker.
+    pub marker_slots: usize,
+    /// The slots of a period: the codeword marker and a codeword.
+    pub period: usize,
+    /// By how many symbols the channel interleaver and its inverse together delay.
+    pub depth: usize,
+    /// The codewords of symbol 0 that flush the channel interleaver.
+    pub flush: usize,
+}
+
+/// The measures of the profile's link. It takes no memory.
+pub fn geometry(p: &Profile) -> Measures
+    ensures { result ≡ measures_of p.now }
+{
+    let order = p.order();
+    let rate = p.rate();
+    let symbols = order.symbols();
+    let symbol_slots = p.repeat() * (5 * order.slots() / 4);
+    let marker = p.marker().len();
+    let depth = p.rows() * (p.rows() - 1) * p.delay();
+    Measures {
+        steps: rate.steps(),
+        block: rate.block(),
+        symbols,
+        symbol_slots,
+        marker_slots: marker * symbol_slots,
+        period: (marker + symbols) * symbol_slots,
+        depth,
+        flush: depth.div_ceil(symbols),
+    }
+}
