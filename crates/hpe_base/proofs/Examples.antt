@@ -7,7 +7,7 @@ use Rattle.hpe_base.specs.Parameters.{basic, period_slots}
 use Rattle.hpe_base.specs.Randomiser.{randomised, pseudo_random}
 use Rattle.hpe_base.specs.Check.{check_bits}
 use Rattle.hpe_base.specs.ConvolutionalCode.{code_bits}
-use Rattle.hpe_base.specs.CodeInterleaver.{pi}
+use Rattle.hpe_base.specs.CodeInterleaver.{pi, pi_inverse}
 use Rattle.hpe_base.specs.Accumulator.{accumulated}
 use Rattle.hpe_base.specs.Mapper.{symbols_of}
 use Rattle.hpe_base.specs.ChannelInterleaver.{interleaved_channel, deinterleaved_channel}
@@ -48,6 +48,9 @@ punctured = refl
 
 places : map pi (0 ∷ 1 ∷ 2 ∷ 15119 ∷ []) ≡ 0 ∷ 221 ∷ 862 ∷ 199 ∷ []
 places = refl
+
+places_undone : map pi_inverse (199 ∷ 96 ∷ []) ≡ 15119 ∷ 8256 ∷ []
+places_undone = refl
 
 running : accumulated (1 ∷ 0 ∷ 1 ∷ 0 ∷ []) ≡ 1 ∷ 1 ∷ 0 ∷ 0 ∷ []
 unfolding tabulate

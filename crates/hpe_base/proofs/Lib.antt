@@ -2,6 +2,7 @@ pub mod Tabulated
 pub mod BitLists
 pub mod ParameterLemmas
 pub mod KeptLength
+pub mod Permutation
 pub mod Channels
 pub mod Periods
 pub mod EachPlace

@@ -7,6 +7,10 @@ use Rattle.hpe_base.specs.Parameters.{codeword_bits}
 abbrev pub pi : ℕ → ℕ
 pi j = (11 * j + 210 * (j * j)) % codeword_bits
 
+-- the place that the code bit of place e goes to
+abbrev pub pi_inverse : ℕ → ℕ
+pi_inverse e = (14891 * e + 210 * (e * e)) % codeword_bits
+
 -- the code bits in the interleaver's order
 abbrev pub interleaved : List ℕ → List ℕ
 interleaved bits = tabulate codeword_bits (λ j. slice_index bits (pi j))

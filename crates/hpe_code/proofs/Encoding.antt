@@ -20,7 +20,7 @@ pub record Encoding (columns : List (List Bool)) (u kept : List ℕ) (t column a
   pub before_bit : before < 2
 
 -- the bit that enters
-earlier_none : (u : List ℕ) (t : ℕ) → earlier u t 0 ≡ get_or u t 0
+pub earlier_none : (u : List ℕ) (t : ℕ) → earlier u t 0 ≡ get_or u t 0
 earlier_none u t = grind (arith, nat_tests)
 
 -- one step later it is the last

@@ -1,6 +1,6 @@
-// The code interleaver: a permutation of a codeword's bits by a polynomial of second degree.
+// The code interleaver: a permutation of a codeword's bits by a polynomial of second degree, whose inverse is another.
 ghost use Rattle.std.specs.Prelude.{◌≡◌, ◌<◌, length};
-ghost use Rattle.hpe_base.specs.CodeInterleaver.{pi, IsInterleaved};
+ghost use Rattle.hpe_base.specs.CodeInterleaver.{pi, pi_inverse, IsInterleaved};
 ghost use Rattle.hpe_base.specs.Parameters.{codeword_bits};
 
 use hpe_base::{CODE_BITS, NoMemory};
@@ -12,6 +12,9 @@ const LINEAR: u64 = 11;
 
 /// The coefficient of `j^2`.
 const QUADRATIC: u64 = 210;
+
+/// The factor of the place in the polynomial of the inverse, where its square has the same factor.
+const INVERSE_LINEAR: u64 = 14_891;
 
 /// The code interleaver of a codeword's 15,120 bits, as a table.
 #[derive(Drop)]
@@ -51,6 +54,15 @@ impl CodeTables {
         self.places[j] as usize
     }
 
+    /// The place that the code bit of place `e` goes to.
+    pub fn pi_inverse(&self, e: usize) -> usize
+        requires { e < codeword_bits }
+        ensures { result ≡ pi_inverse e }
+    {
+        let place = e as u64;
+        ((INVERSE_LINEAR * place + QUADRATIC * place * place) % CODE_BITS as u64) as usize
+    }
+
     /// Puts the value of place `pi(j)` at each place `j`, for the bits of a codeword or values that belong to them.
     ///
     /// Both have 15,120 places.
@@ -61,6 +73,19 @@ impl CodeTables {
     {
         for (j, value) in into.iter_mut().enumerate() {
             *value = from[self.pi(j)];
+        }
+    }
+
+    /// Puts the value of each place `j` at place `pi(j)`, which undoes `interleave` and is undone by it.
+    ///
+    /// Both have 15,120 places.
+    pub fn deinterleave<V: Copy>(&self, from: &[V], into: &mut [V])
+        requires from { length from.now ≡ codeword_bits }
+        requires into { length into.old ≡ codeword_bits }
+        ensures { IsInterleaved into.new from.now }
+    {
+        for (j, value) in from.iter().enumerate() {
+            into[self.pi(j)] = *value;
         }
     }
 }

@@ -1,7 +1,7 @@
 ghost use Rattle.std.specs.Prelude.{◌≡◌, length, IfOk};
 ghost use Rattle.hpe_base.specs.Parameters.{codeword_bits};
 
-use crate::{CodeTables, outer_encode};
+use crate::{CodeTables, kept_length, moves_undo_each_other, outer_encode};
 use hpe_base::CODE_BITS;
 use std::alloc::{AllocError, Global};
 use std::test::Fail;
@@ -21,6 +21,14 @@ fn encodes_by_hand(rt: HostRuntime) {
     assert_eq!(rt; punctured, [1, 1, 1, 1, 1]);
 }
 
+#[test]
+fn counts_kept_bits(rt: HostRuntime) {
+    assert_eq!(rt; kept_length(&[[true, true, true]], 5_040), 15_120);
+    let two = [[true, true, false], [false, true, false]];
+    assert_eq!(rt; kept_length(&two, 10_080), 15_120);
+    assert_eq!(rt; kept_length(&two, 3), 5);
+}
+
 fn codeword<V: Copy>(alloc: Global, value: V) -> Result<Vec<V>, AllocError>
     ensures { IfOk result (λ v. length v.items ≡ codeword_bits) }
 {
@@ -37,6 +45,18 @@ fn places(alloc: Global) -> Result<Vec<u16>, AllocError>
     Ok(places)
 }
 
+// The law meets the calls.
+fn there_and_back<V: Copy>(tables: &CodeTables, first: &[V], moved: &mut [V], last: &mut [V])
+    requires first { length first.now ≡ codeword_bits }
+    requires moved { length moved.old ≡ codeword_bits }
+    requires last { length last.old ≡ codeword_bits }
+    ensures { last.new ≡ first.now }
+{
+    tables.interleave(first, moved);
+    tables.deinterleave(moved, last);
+    moves_undo_each_other::<V>();
+}
+
 #[test]
 fn interleaves_places(rt: HostRuntime) -> Result<(), Fail> {
     let alloc = rt.alloc();
@@ -45,10 +65,15 @@ fn interleaves_places(rt: HostRuntime) -> Result<(), Fail> {
     assert_eq!(rt; tables.pi(1), 221);
     assert_eq!(rt; tables.pi(2), 862);
     assert_eq!(rt; tables.pi(15_119), 199);
+    assert_eq!(rt; tables.pi_inverse(199), 15_119);
+    assert_eq!(rt; tables.pi_inverse(96), 8_256);
+    let places = places(alloc)?;
     let mut moved = codeword(alloc, 0)?;
-    tables.interleave(&places(alloc)?, &mut moved);
+    let mut back = codeword(alloc, 0)?;
+    there_and_back(&tables, &places, &mut moved, &mut back);
     assert!(rt; moved.starts_with(&[0, 221, 862]));
     assert!(rt; moved.ends_with(&[199]));
+    assert!(rt; back == places);
     Ok(())
 }
 
