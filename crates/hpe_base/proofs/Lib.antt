@@ -1,5 +1,7 @@
 pub mod Tabulated
 pub mod BitLists
+pub mod Numbers
+pub mod Pieces
 pub mod ParameterLemmas
 pub mod KeptLength
 pub mod Permutation

@@ -1,2 +1,4 @@
 mod RunningSums
-mod Numbers
+pub mod Mapping
+pub mod Differences
+pub mod InnerCode

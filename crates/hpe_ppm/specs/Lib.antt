@@ -1,0 +1,2 @@
+pub mod MappedBits
+pub mod Laws

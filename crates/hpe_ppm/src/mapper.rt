@@ -1,8 +1,9 @@
-//! The pulse-position mapper.
+//! The pulse-position mapper and its inverse.
 ghost use Rattle.std.specs.Prelude.{◌≡◌, ◌≤◌, ◌<◌, ◌*◌, ◌^◌, length, All};
-ghost use Rattle.hpe_base.specs.Bits.{AreBits, number_of};
+ghost use Rattle.hpe_base.specs.Bits.{AreBits, bits_of, number_of};
 ghost use Rattle.hpe_base.specs.Mapper.{symbols_of};
 ghost use Rattle.hpe_base.specs.Parameters.{symbol_bits, positions};
+ghost use Rattle.hpe_ppm.specs.MappedBits.{mapped_bits};
 
 use hpe_base::Order;
 
@@ -33,5 +34,33 @@ pub fn symbols_of(order: Order, bits: &[u8], out: &mut [u8])
     let size = order.bits() as usize;
     for (s, symbol) in out.iter_mut().enumerate() {
         *symbol = number_of_bits(&bits[s * size..s * size + size]);
+    }
+}
+
+/// Writes the low bits of a number, as many as there is room for and at most eight, most significant first.
+fn write_bits(number: u8, bits: &mut [u8])
+    requires { length bits.old ≤ 8 }
+    ensures { bits.new ≡ bits_of (length bits.old) number }
+{
+    let size = bits.len();
+    for (i, bit) in bits.iter_mut().enumerate() {
+        *bit = (number >> (size - 1 - i)) & 1;
+    }
+}
+
+/// Maps symbols to bits: each writes as many as a symbol of the order carries, 2 to 8, most significant first. `out` has
+/// an octet for each bit.
+///
+/// This is the inverse of the pulse-position mapper.
+pub fn bits_of(order: Order, symbols: &[u8], out: &mut [u8])
+    requires below { All (λ s. s < positions order) symbols.now }
+    requires size { length out.old ≡ length symbols.now * symbol_bits order }
+    ensures value { out.new ≡ mapped_bits order symbols.now }
+    ensures bits { AreBits out.new }
+    ensures undoes { symbols_of order out.new ≡ symbols.now }
+{
+    let size = order.bits() as usize;
+    for (s, symbol) in symbols.iter().enumerate() {
+        write_bits(*symbol, &mut out[s * size..s * size + size]);
     }
 }

@@ -2,7 +2,7 @@ use Rattle.std.proofs.Common.{◌<◌, ◌+◌, ◌*◌, arith, ◌∙◌, sym, 
 use Rattle.std.proofs.lemmas.List.{take_more}
 use Rattle.std.proofs.lemmas.List.Elements.{All-get_or}
 use Rattle.hpe_base.specs.Bits.{number_of}
-use Rattle.hpe_ppm.proofs.Numbers.{number_of-push, double_below}
+use Rattle.hpe_base.proofs.Numbers.{number_of-push, double_below}
 use Rattle.hpe_ppm.proofs.mapper.number_of_bits.Goals as goal
 
 pub loop-bit-preserved : goal.loop-bit-preserved
