@@ -1,1 +1,4 @@
+mod Gathering
 mod Pulses
+mod RunningSums
+mod Scoring

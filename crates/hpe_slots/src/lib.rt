@@ -1,8 +1,10 @@
-//! Symbols as slots: the repeater, the pulses and the guard slots.
+//! Symbols as slots and back: the repeater, the pulses and the guard slots.
 #![tactic(auto)]
 
+mod reading;
 #[cfg(test)]
 mod tests;
 mod writing;
 
+pub use reading::{gather, marker_score};
 pub use writing::{symbol_slots, write_pulses, write_symbol};

@@ -1,4 +1,4 @@
-use crate::{symbol_slots, write_pulses, write_symbol};
+use crate::{gather, marker_score, symbol_slots, write_pulses, write_symbol};
 use hpe_base::Profile;
 use hpe_io::{Failed, MemSink};
 use std::test::Fail;
@@ -24,4 +24,29 @@ fn put_to_a_sink(rt: HostRuntime) -> Result<(), Fail> {
         assert_eq!(rt; sink.bytes(), &FIVE[..count]);
     }
     Ok(())
+}
+
+#[test]
+fn sums_of_a_symbol(rt: HostRuntime) {
+    let p = Profile::basic();
+    let counts = [
+        1, 2, 3, 4, 5, 6, 7, 8, 9, 10, 11, 12, 13, 14, 15, 16, 17, 18, 19, 20,
+    ];
+    let mut sums = [7; 16];
+    gather(&p, &counts, &mut sums);
+    assert_eq!(rt;
+        sums,
+        [1, 2, 3, 4, 5, 6, 7, 8, 9, 10, 11, 12, 13, 14, 15, 16]
+    );
+}
+
+#[test]
+fn score_of_a_marker(rt: HostRuntime) {
+    let p = Profile::basic();
+    let mut window = [3; 320];
+    assert_eq!(rt; marker_score(&p, &window), 48);
+    for (r, symbol) in p.marker().iter().enumerate() {
+        write_pulses(&p, *symbol, &mut window[20 * r..20 * r + 20]);
+    }
+    assert_eq!(rt; marker_score(&p, &window), 16);
 }

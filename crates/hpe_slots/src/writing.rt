@@ -20,7 +20,7 @@ const MOST_SENDING_SLOTS: usize = 320;
 const MOST_SYMBOL_SLOTS: usize = MOST_REPEATS * MOST_SENDING_SLOTS;
 
 /// The slots of one sending, guard slots included.
-fn sending_slots(order: Order) -> usize
+pub(crate) fn sending_slots(order: Order) -> usize
     ensures { result ≡ sending_slots order }
 {
     5 * order.slots() / 4
