@@ -3,4 +3,3 @@ pub mod Streams
 pub mod OneRow
 pub mod Codewords
 pub mod Pending
-pub mod Asking

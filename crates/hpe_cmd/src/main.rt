@@ -2,6 +2,8 @@
 #![tactic(auto)]
 
 mod encode;
+mod geometry;
+mod line;
 mod outbox;
 mod reading;
 mod run;

@@ -1,16 +1,19 @@
 // What the program does for its words.
 
-ghost use Rattle.std.specs.Prelude.{◌≡◌, ◌≤◌, ◌<◌, ◌+◌, ◌↔◌, ◌%◌, ℕ, List, length, map, string_bytes};
+ghost use Rattle.std.specs.Prelude.{◌≡◌, ◌≢◌, ◌≤◌, ◌<◌, ◌+◌, ◌↔◌, ◌%◌, ℕ, List, length};
+ghost use Rattle.std.specs.Io.KnownBytes.{append_known};
 ghost use Rattle.hpe_base.specs.Parameters.{basic};
-ghost use Rattle.hpe_io.specs.Devices.{Rose, TakesCount, TakesAtMost, Grows};
+ghost use Rattle.hpe_io.specs.Devices.{Rose, TakesCount, TakesAtMost, GrowsByFront, Grows};
 ghost use Rattle.hpe_cmd.specs.Encoding.{Encodes};
+ghost use Rattle.hpe_cmd.specs.GeometryLine.{geometry_line};
 ghost use Rattle.hpe_cmd.specs.Statuses.{status_number};
-ghost use Rattle.hpe_cmd.specs.Words.{AsksEncode};
+ghost use Rattle.hpe_cmd.specs.Words.{AsksFor, AsksNothing};
 
 use crate::encode::{EncodeFault, LIMIT, encode};
-use crate::words::asks_encode;
+use crate::geometry::put_geometry;
+use crate::words::{Action, asked};
 use hpe_base::Profile;
-use hpe_io::{Sink, Source};
+use hpe_io::{Failed, Sink, Source};
 
 /// How a run ended.
 #[derive(Clone, Copy, Debug, PartialEq, Eq)]
@@ -64,29 +67,30 @@ pub fn run<T: AllocGlobal, I: Source, O: Sink, R: Sink>(
     output: &mut O,
     report: &mut R,
 ) -> Ended<I>
-    // The words.
-    ensures usage { (result.status ≡ Status.Usage) ↔ (AsksEncode (map (λ w. string_bytes w) words.now) → ⊥) }
-    ensures unread { result.status ≡ Status.Usage → result.input ≡ input }
+    ensures usage { (result.status ≡ Status.Usage) ↔ AsksNothing words.now }
 
-    // The slots of the whole frames are written where the input was read to its end.
-    ensures done { result.status ≡ Status.Done → (octets : List ℕ)
+    // `encode`: the slots of the whole frames are written where the input was read to its end.
+    ensures done { AsksFor words.now Action.Encode → result.status ≡ Status.Done → (octets : List ℕ)
         × Encodes basic LIMIT (I.left input) (I.left result.input) (O.written output.old) (O.written output.new) octets
         × (length octets % 100 ≡ 0) }
     ensures ragged { result.status ≡ Status.Ragged → (octets : List ℕ)
         × Encodes basic LIMIT (I.left input) (I.left result.input) (O.written output.old) (O.written output.new) octets
         × (0 < length octets % 100) }
-
-    // Each other status has its cause.
     ensures long { result.status ≡ Status.TooLong → TakesCount (I.left input) (I.left result.input) (LIMIT + 1) }
     ensures read { result.status ≡ Status.ReadFault → Rose (I.faults input) (I.faults result.input) }
-    ensures write { result.status ≡ Status.WriteFault → Rose (O.faults output.old) (O.faults output.new) }
-
-    // Nothing is put without memory or for other words, and nothing ever on the report.
     ensures memory { result.status ≡ Status.NoMemory → output.new ≡ output.old }
+
+    // `geometry`: the line is written, or a front of it where the output failed.
+    ensures line { AsksFor words.now Action.Geometry → result.status ≡ Status.Done
+        → O.written output.new ≡ append_known (O.written output.old) (geometry_line basic) }
+    ensures cut { AsksFor words.now Action.Geometry → result.status ≢ Status.Done
+        → (result.status ≡ Status.WriteFault) × GrowsByFront (O.written output.old) (O.written output.new) (geometry_line basic) }
+    ensures unread { (AsksFor words.now Action.Encode → ⊥) → result.input ≡ input }
+
+    // What holds for all words.
+    ensures write { result.status ≡ Status.WriteFault → Rose (O.faults output.old) (O.faults output.new) }
     ensures quiet { result.status ≡ Status.Usage → output.new ≡ output.old }
     ensures silent { report.new ≡ report.old }
-
-    // What holds of the devices whatever the status is.
     ensures taken { TakesAtMost (I.left input) (I.left result.input) (LIMIT + 1) }
     ensures grows { Grows (O.written output.old) (O.written output.new) }
     ensures input_later { I.faults input ≤ I.faults result.input }
@@ -95,20 +99,29 @@ pub fn run<T: AllocGlobal, I: Source, O: Sink, R: Sink>(
     ensures output_mark { O.mark output.new ≡ O.mark output.old }
     ensures build { I.build result.input ≡ I.build input }
 {
-    if !asks_encode(words) {
-        return Ended {
+    let p = Profile::basic();
+    match asked(words) {
+        None => Ended {
             status: Status::Usage,
             input,
-        };
+        },
+        Some(Action::Encode) => {
+            let status = match encode(rt.alloc(), &p, &mut input, output) {
+                Ok(()) => Status::Done,
+                Err(EncodeFault::Ragged) => Status::Ragged,
+                Err(EncodeFault::Read) => Status::ReadFault,
+                Err(EncodeFault::Write) => Status::WriteFault,
+                Err(EncodeFault::TooLong) => Status::TooLong,
+                Err(EncodeFault::NoMemory) => Status::NoMemory,
+            };
+            Ended { status, input }
+        }
+        Some(Action::Geometry) => {
+            let status = match put_geometry(&p, output) {
+                Ok(()) => Status::Done,
+                Err(Failed) => Status::WriteFault,
+            };
+            Ended { status, input }
+        }
     }
-    let p = Profile::basic();
-    let status = match encode(rt.alloc(), &p, &mut input, output) {
-        Ok(()) => Status::Done,
-        Err(EncodeFault::Ragged) => Status::Ragged,
-        Err(EncodeFault::Read) => Status::ReadFault,
-        Err(EncodeFault::Write) => Status::WriteFault,
-        Err(EncodeFault::TooLong) => Status::TooLong,
-        Err(EncodeFault::NoMemory) => Status::NoMemory,
-    };
-    Ended { status, input }
 }

@@ -65,6 +65,22 @@ fn whole_and_ragged_inputs(rt: HostRuntime) -> Result<(), Fail> {
 }
 
 #[test]
+fn measures_in_a_line(rt: HostRuntime) -> Result<(), Fail> {
+    let command = words(rt.alloc(), &["hpe", "geometry"])?;
+    let line =
+        b"order 16 rate 1/3 steps 5040 block 5006 symbols 3780 marker 16 period 75920 depth 0 flush 0\n";
+    for (room, status) in [(line.len(), Status::Done), (8, Status::WriteFault)] {
+        let input = MemSource::new(rt.alloc(), &[0], &[], &[0])?;
+        let mut output = MemSink::new(rt.alloc(), room, &[])?;
+        let mut report = MemSink::new(rt.alloc(), 0, &[])?;
+        let ended = run(&rt, &command, input, &mut output, &mut report);
+        assert_eq!(rt; ended.status, status);
+        assert_eq!(rt; output.bytes(), &line[..room]);
+    }
+    Ok(())
+}
+
+#[test]
 fn other_words(rt: HostRuntime) -> Result<(), Fail> {
     let commands: [&[&str]; 6] = [
         &[],

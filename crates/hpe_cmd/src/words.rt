@@ -1,21 +1,33 @@
 // The words of a command.
+ghost use Rattle.std.specs.Prelude.{◌≡◌, map, string_bytes};
+ghost use Rattle.hpe_cmd.specs.Words.{action_of, asked};
 
-ghost use Rattle.std.specs.Prelude.{◌≡◌, ◌↔◌, map, IsTrue, string_bytes, codes};
-ghost use Rattle.hpe_cmd.specs.Words.{AsksEncode};
-
-/// Whether the word is `encode`.
-fn is_encode(word: &String) -> bool
-    ensures { IsTrue result ↔ (string_bytes word.now ≡ codes "encode") }
-{
-    word.as_str() == "encode"
+/// What the program can do.
+#[derive(Clone, Copy, Debug, PartialEq, Eq)]
+pub enum Action {
+    /// Encode transfer frames to slots.
+    Encode,
+    /// Write the measures of the profile.
+    Geometry,
 }
 
-/// Whether the words are two, and the second is `encode`.
-pub fn asks_encode(words: &[String]) -> bool
-    ensures { IsTrue result ↔ AsksEncode (map (λ w. string_bytes w) words.now) }
+/// The action of that name.
+fn action_of(name: &str) -> Option<Action>
+    ensures { result ≡ action_of name.now }
+{
+    match name {
+        "encode" => Some(Action::Encode),
+        "geometry" => Some(Action::Geometry),
+        _ => None,
+    }
+}
+
+/// The action that the words ask, of which the first is the program's name.
+pub fn asked(words: &[String]) -> Option<Action>
+    ensures { result ≡ asked (map (λ w. string_bytes w) words.now) }
 {
     match words {
-        [_, action] => is_encode(action),
-        _ => false,
+        [_, name] => action_of(name.as_str()),
+        _ => None,
     }
 }

@@ -1,0 +1,50 @@
+// The action `geometry`: the measures of a profile in one line.
+ghost use Rattle.std.specs.Prelude.{◌≡◌, ◌<◌, ◌≤◌, length};
+ghost use Rattle.hpe_io.specs.Devices.{Puts, HasCause};
+ghost use Rattle.hpe_cmd.specs.GeometryLine.{geometry_line, rate_text};
+
+use crate::line::{Line, push_entry};
+use hpe_base::{Profile, Rate, geometry};
+use hpe_io::{Failed, Sink};
+
+/// The rate as it is written in a profile.
+fn rate_text(rate: Rate) -> &'static str
+    ensures text { result.now ≡ rate_text rate }
+    ensures size { length result.now ≤ 3 }
+{
+    match rate {
+        Rate::Third => "1/3",
+        Rate::Half => "1/2",
+        Rate::TwoThirds => "2/3",
+    }
+}
+
+/// The measures of the profile in one line, with its line feed.
+fn geometry_line(p: &Profile) -> Line
+    ensures text { result.bytes ≡ geometry_line p.now }
+    ensures some { 0 < length result.bytes }
+{
+    let measures = geometry(p);
+    let mut line = Line::new();
+    push_entry(&mut line, "order ", p.order().slots());
+    line.push_str(" rate ");
+    line.push_str(rate_text(p.rate()));
+    push_entry(&mut line, " steps ", measures.steps);
+    push_entry(&mut line, " block ", measures.block);
+    push_entry(&mut line, " symbols ", measures.symbols);
+    push_entry(&mut line, " marker ", p.marker().len());
+    push_entry(&mut line, " period ", measures.period);
+    push_entry(&mut line, " depth ", measures.depth);
+    push_entry(&mut line, " flush ", measures.flush);
+    line.push_str("\n");
+    line
+}
+
+/// Puts the line.
+pub fn put_geometry<O: Sink>(p: &Profile, output: &mut O) -> Result<(), Failed>
+    ensures bytes { Puts (O.written output.old) (O.written output.new) result (geometry_line p.now) }
+    ensures cause { HasCause (O.faults output.old) (O.faults output.new) result }
+    ensures mark { O.mark output.new ≡ O.mark output.old }
+{
+    output.put(geometry_line(p).as_str().as_bytes())
+}
