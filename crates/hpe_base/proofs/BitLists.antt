@@ -1,7 +1,7 @@
 -- Lemmas on numbers as lists of bits.
 use Rattle.std.proofs.Common.{◌≡◌, ◌++◌, ◌+◌, ◌-◌, ◌*◌, ◌/◌, ◌%◌, ◌^◌, ◌<◌, ◌≤◌, ℕ, List, [], ◌∷◌, refl, length, length-append, get_or, sym, ◌∙◌, ap, arith, zero, suc, bit_xor}
 use Rattle.std.specs.Int.{bit_at}
-use Rattle.std.proofs.lemmas.Nat.{mod-pow-add, div-add-mod', mod_below, xor_lt}
+use Rattle.std.proofs.lemmas.Nat.{mod-pow-add, div-add-mod', xor_lt}
 use Rattle.std.proofs.lemmas.Nat.Bits.{bit_at_xor, bit_at_cat_low, bit_at-suc, bit_at-lt, bit_at_lowest}
 use Rattle.std.proofs.lemmas.List.Elements.{All-append}
 use Rattle.hpe_base.specs.Lists.{joined}

@@ -1,5 +1,5 @@
 -- Worked numbers of the definitions.
-use Rattle.std.proofs.Common.{◌≡◌, ◌+◌, ◌*◌, ◌/◌, ◌%◌, ℕ, List, [], ◌∷◌, true, false, refl, map}
+use Rattle.std.proofs.Common.{◌≡◌, ◌+◌, ◌*◌, ◌/◌, ◌%◌, ℕ, [], ◌∷◌, true, false, refl, map}
 use Rattle.std.specs.Prelude.{replicate, slice_index}
 use Rattle.hpe_base.specs.Lists.{tabulate, joined}
 use Rattle.hpe_base.specs.Bits.{bits_of, number_of, zeros}

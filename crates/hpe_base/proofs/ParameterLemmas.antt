@@ -1,5 +1,5 @@
 -- Bounds on the numbers of a link.
-use Rattle.std.proofs.Common.{◌≤◌, ◌<◌, ◌*◌, ◌≡◌, refl, lit≤, lit<}
+use Rattle.std.proofs.Common.{◌≤◌, ◌<◌, lit≤, lit<}
 use Rattle.hpe_base.specs.Parameters.{code_steps, symbol_bits, codeword_symbols, positions, sending_slots}
 use Rattle.hpe_base.specs.declared.profile.Rate.{Rate}
 use Rattle.hpe_base.specs.declared.profile.Rate.TheVariants.{Third, Half, TwoThirds}
@@ -10,15 +10,6 @@ pub code_steps-ge : (r : Rate) → 5040 ≤ code_steps r
 code_steps-ge Third = lit≤ tt
 code_steps-ge Half = lit≤ tt
 code_steps-ge TwoThirds = lit≤ tt
-
-pub symbols_fill : (o : Order) → codeword_symbols o * symbol_bits o ≡ 15120
-symbols_fill P4 = refl
-symbols_fill P8 = refl
-symbols_fill P16 = refl
-symbols_fill P32 = refl
-symbols_fill P64 = refl
-symbols_fill P128 = refl
-symbols_fill P256 = refl
 
 pub positions-lt : (o : Order) → positions o < sending_slots o
 positions-lt P4 = lit< tt

@@ -1,5 +1,5 @@
 -- The slots of periods in a row: each is the slots of its marker symbols and of its codeword's symbols.
-use Rattle.std.proofs.Common.{◌≡◌, ◌≤◌, ◌<◌, ◌+◌, ◌*◌, ◌/◌, ◌%◌, ◌-◌, ◌++◌, ℕ, List, [], ◌∷◌, length, get_or, ap, sym, ◌∙◌, refl, arith, length-append, inl, inr, if◌then◌else◌, ◌==◌, nat_lt, true, false, zero, suc}
+use Rattle.std.proofs.Common.{◌≡◌, ◌≤◌, ◌<◌, ◌+◌, ◌*◌, ◌/◌, ◌%◌, ◌-◌, ◌++◌, ℕ, List, [], ◌∷◌, length, get_or, ap, sym, ◌∙◌, refl, arith, length-append, inl, inr, if◌then◌else◌, ◌==◌, nat_lt, true, false, suc}
 use Rattle.std.specs.List.{flat_map}
 use Rattle.std.proofs.lemmas.Nat.{div-mul-add, mod-mul-add, div_below, mul-le, div-add-mod', mod_below}
 use Rattle.std.proofs.lemmas.Bool.{cases_lt, lt-ltb, le-ltb}
@@ -9,18 +9,18 @@ use Rattle.hpe_base.specs.Parameters.{Parameters, sending_slots, symbol_slots, p
 use Rattle.hpe_base.specs.ChannelInterleaver.{interleaved_channel}
 use Rattle.hpe_base.specs.Slots.{slot_at, symbol_at, pulses_of, slots_to}
 use Rattle.hpe_base.proofs.Tabulated.{tabulate-append, tabulate-same, tabulate-none}
-use Rattle.hpe_base.proofs.Channels.{channel_at-front, length-interleaved_channel}
+use Rattle.hpe_base.proofs.Channels.{length-interleaved_channel}
 use Rattle.hpe_base.proofs.ParameterLemmas.{codeword_symbols-ge, positions-lt}
 
 -- lists of m values, each of which continues f, one after another
-pub flat_map-tabulate : (g : ℕ → List ℕ) (xs : List ℕ) (m : ℕ) (f : ℕ → ℕ) →
+continued : (g : ℕ → List ℕ) (xs : List ℕ) (m : ℕ) (f : ℕ → ℕ) →
     ((c : ℕ) → c < length xs → g (get_or xs c 0) ≡ tabulate m (λ i. f (c * m + i))) → flat_map g xs ≡ tabulate (length xs * m) f
-flat_map-tabulate g [] m f h = let none : 0 * m ≡ 0 = omega arith in sym (ap (λ k. tabulate k f) none ∙ tabulate-none f)
-flat_map-tabulate g (x ∷ xs) m f h =
+continued g [] m f h = let none : 0 * m ≡ 0 = omega arith in sym (ap (λ k. tabulate k f) none ∙ tabulate-none f)
+continued g (x ∷ xs) m f h =
     let first : g x ≡ tabulate m f =
     h 0 (omega arith) ∙ tabulate-same m (λ i. f (0 * m + i)) f (λ k b. let e : 0 * m + k ≡ k = omega arith in ap f e) in
     let rest : flat_map g xs ≡ tabulate (length xs * m) (λ i. f (m + i)) =
-    flat_map-tabulate g xs m (λ i. f (m + i)) (λ c b.
+    continued g xs m (λ i. f (m + i)) (λ c b.
     h (suc c) (omega arith) ∙ tabulate-same m (λ i. f (suc c * m + i)) (λ i. f (m + (c * m + i))) (λ k b.
     let e : suc c * m + k ≡ m + (c * m + k) = grind arith in ap f e)) in
     let size : suc (length xs) * m ≡ m + length xs * m = grind arith in
@@ -98,7 +98,7 @@ unfolding pulses_of
 period_pulses p xs ys n lx ly =
     let m = symbol_slots p in
     let size : length (p.marker ++ ys) ≡ period_symbols p = omega (arith, length-append p.marker ys) in
-    flat_map-tabulate (pulses_of p) (p.marker ++ ys) m (λ i. slot_at p (xs ++ ys) (n * period_slots p + i)) (λ c b.
+    continued (pulses_of p) (p.marker ++ ys) m (λ i. slot_at p (xs ++ ys) (n * period_slots p + i)) (λ c b.
     tabulate-same m (λ i. if i % sending_slots p.order == get_or (p.marker ++ ys) c 0 then 1 else 0) (λ i. slot_at p (xs ++ ys) (n * period_slots p + (c * m + i))) (λ i below.
     let place : n * (period_symbols p * m) + (c * m + i) ≡ (n * period_symbols p + c) * m + i = grind arith in
     let symbol : symbol_at p (xs ++ ys) (n * period_symbols p + c) ≡ get_or (p.marker ++ ys) c 0 = symbol_at-period p xs ys n c lx (omega arith) in

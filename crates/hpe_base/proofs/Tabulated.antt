@@ -1,8 +1,7 @@
 -- Lemmas on lists that are given by their places or piece by piece.
-use Rattle.std.proofs.Common.{◌≡◌, ◌++◌, ◌+◌, ◌*◌, ◌<◌, ◌≤◌, ℕ, List, [], ◌∷◌, refl, map, length, get_or, take, sym, ◌∙◌, ap, arith, sum, zero, suc, add-one, length-append, append_assoc, inl, inr, add-zero, append-nil}
+use Rattle.std.proofs.Common.{◌≡◌, ◌++◌, ◌+◌, ◌*◌, ◌<◌, ◌≤◌, ℕ, List, [], ◌∷◌, refl, length, get_or, sym, ◌∙◌, ap, arith, zero, suc, add-one, length-append, append_assoc, inl, inr, add-zero, append-nil}
 use Rattle.std.proofs.lemmas.Bool.{cases_eq}
-use Rattle.std.specs.List.{range_with_len}
-use Rattle.std.proofs.lemmas.List.FromFn.{length-map-range_with_len, get_or-map-range_with_len, map-range_with_len_more, fill_by_all, take-map-range_with_len}
+use Rattle.std.proofs.lemmas.List.FromFn.{length-map-range_with_len, get_or-map-range_with_len, map-range_with_len_more, fill_by_all}
 use Rattle.hpe_base.specs.Lists.{tabulate, joined}
 
 pub length-tabulate : {X : Type 0} (n : ℕ) (f : ℕ → X) → length (tabulate n f) ≡ n
@@ -20,10 +19,6 @@ tabulate_from_places n f xs d l h = fill_by_all f xs n d l h
 pub tabulate-more : {X : Type 0} (n : ℕ) (f : ℕ → X) → tabulate (n + 1) f ≡ tabulate n f ++ f n ∷ []
 unfolding tabulate
 tabulate-more n f = map-range_with_len_more f 0 n n (omega arith)
-
-pub take-tabulate : {X : Type 0} (n k : ℕ) (f : ℕ → X) → k ≤ n → take k (tabulate n f) ≡ tabulate k f
-unfolding tabulate
-take-tabulate n k f h = take-map-range_with_len f 0 n k h
 
 pub tabulate-same : (n : ℕ) (f g : ℕ → ℕ) → ((k : ℕ) → k < n → f k ≡ g k) → tabulate n f ≡ tabulate n g
 tabulate-same n f g h =

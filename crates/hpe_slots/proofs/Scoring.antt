@@ -19,6 +19,7 @@ pub record Summing (symbol size : ℕ) (slots : List ℕ) (n place total : ℕ) 
   pub value : total ≡ sum (tabulate n (pulse_count symbol size slots))
   pub most : total ≤ n * 255
 
+-- before the first sending
 pub Summing-none : (symbol size : ℕ) (slots : List ℕ) → Summing symbol size slots 0 symbol 0
 Summing-none symbol size slots = record {
   next = omega arith;
@@ -47,6 +48,7 @@ pub record Scoring (p : Parameters) (window : List ℕ) (n start score : ℕ) : 
   pub value : score ≡ sum (tabulate n (symbol_pulses p window))
   pub most : score ≤ n * 8160
 
+-- before the first symbol
 pub Scoring-none : (p : Parameters) (window : List ℕ) → Scoring p window 0 0 0
 Scoring-none p window = record {
   next = omega arith;

@@ -21,11 +21,13 @@ fn add_counts(counts: &[u8], sums: &mut [u16])
     }
 }
 
-/// Sums the counts of one symbol: `into`, of as many places as the order has pulse positions, becomes at each of them
-/// the sum of its counts in all sendings. `slots` holds the counts of the symbol's slots, as many as [`symbol_slots`]
-/// says; those of the guard slots play no part.
+/// Adds up the sendings of one symbol: each place of `into` becomes the sum of the counts at that pulse position, at most
+/// 8,160.
 ///
-/// This undoes the repeater, ahead of the mapper's soft values. It is called for each symbol that is received.
+/// `slots` has a count for each slot of the symbol, as many as [`symbol_slots`] says, and `into` a place for each pulse
+/// position of the order. Guard slots are left out.
+///
+/// This is the receiver's side of the repeater. It is called for each symbol that is received, so it only adds.
 pub fn gather(p: &Profile, slots: &[u8], into: &mut [u16])
     requires slots { length slots.now ≡ symbol_slots p.now }
     requires into { length into.old ≡ positions p.now.order }
@@ -42,7 +44,7 @@ pub fn gather(p: &Profile, slots: &[u8], into: &mut [u16])
     }
 }
 
-/// The sum of the counts at the pulses of one symbol, of which `slots` holds so many sendings of `size` slots.
+/// The sum of the counts at the pulses of one symbol. `slots` holds its `repeat` sendings, of `size` slots each.
 fn pulse_sum(symbol: u8, repeat: usize, size: usize, slots: &[u8]) -> u32
     requires symbol { symbol < size }
     requires repeat { repeat ≤ 32 }
@@ -59,23 +61,25 @@ fn pulse_sum(symbol: u8, repeat: usize, size: usize, slots: &[u8]) -> u32
     total
 }
 
-/// How much a window looks like the codeword marker: the sum of its counts at the marker's pulses, all repeats
-/// included. `window` holds the counts of as many slots as the marker has, `marker().len()` times [`symbol_slots`].
+/// How much a window looks like the codeword marker: the sum of the counts at the marker's pulses, all repeats included,
+/// at most 522,240.
 ///
-/// This is one term of the marker search, which adds such windows a period apart.
+/// `window` has a count for each slot of the marker, [`symbol_slots`] for each of its symbols.
+///
+/// This is one term of the search for the codeword marker, which adds such windows a period apart.
 pub fn marker_score(p: &Profile, window: &[u8]) -> u32
     requires { length window.now ≡ length p.now.marker * symbol_slots p.now }
     ensures value { result ≡ marker_sum p.now window.now 0 }
     ensures most { result ≤ 64 * 32 * 255 }
 {
     let repeat = p.repeat();
-    let sending = sending_slots(p.order());
-    let size = symbol_slots(p);
+    let size = sending_slots(p.order());
+    let symbol_size = symbol_slots(p);
     let mut score = 0;
     let mut start = 0;
     for symbol in p.marker() {
-        score += pulse_sum(*symbol, repeat, sending, &window[start..start + size]);
-        start += size;
+        score += pulse_sum(*symbol, repeat, size, &window[start..start + symbol_size]);
+        start += symbol_size;
     }
     score
 }

@@ -1,6 +1,6 @@
 use Rattle.std.proofs.Common.{◌≡◌, ◌∙◌, rules}
 use Rattle.std.specs.Prelude.{count_by}
-use Rattle.hpe_code.proofs.KeptCount.{count-set}
+use Rattle.hpe_code.proofs.FlagCount.{count-set}
 use Rattle.hpe_code.proofs.outer.flags_in.Goals as goal
 
 pub returns-clause-count : goal.returns-clause-count

@@ -1,6 +1,6 @@
 use Rattle.std.proofs.Common.{◌≡◌, [], length, sym, All}
 use Rattle.std.proofs.lemmas.List.Elements.{All-from_get_or}
-use Rattle.hpe_code.proofs.KeptCount.{length-code_bits-steps}
+use Rattle.hpe_base.proofs.KeptLength.{length-code_bits-steps}
 use Rattle.hpe_code.proofs.outer.kept_length.Goals as goal
 
 pub returns : goal.returns

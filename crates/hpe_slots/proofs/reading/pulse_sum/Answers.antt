@@ -7,4 +7,4 @@ loop-init c = Summing-none _ _ _
 
 pub loop-preserved : goal.loop-preserved
 loop-preserved c =
-    Summing-more _ _ _ c.loop.counter _ _ _ (c.from-total.ensures) (omega (arith, c.type_inv.slots c.loop.place)) c.loop.invariant
+    Summing-more _ _ _ c.loop.counter _ _ _ c.from-total.ensures (omega (arith, c.type_inv.slots c.loop.place)) c.loop.invariant
