@@ -1,6 +1,6 @@
 -- Worked numbers of the definitions.
 use Rattle.std.proofs.Common.{◌≡◌, ◌+◌, ◌*◌, ◌/◌, ◌%◌, ℕ, [], ◌∷◌, true, false, refl, map}
-use Rattle.std.specs.Prelude.{replicate, slice_index}
+use Rattle.std.specs.Prelude.{replicate, slice_index, codes, pos, Some, None}
 use Rattle.hpe_base.specs.Lists.{tabulate, joined}
 use Rattle.hpe_base.specs.Bits.{bits_of, number_of, zeros}
 use Rattle.hpe_base.specs.Parameters.{basic, period_slots}
@@ -14,7 +14,8 @@ use Rattle.hpe_base.specs.ChannelInterleaver.{interleaved_channel, deinterleaved
 use Rattle.hpe_base.specs.Slots.{pulses_of}
 use Rattle.hpe_base.specs.MarkerSearch.{marker_sum, least_greatest}
 use Rattle.hpe_base.specs.ReceivedWords.{symbol_sums}
-use Rattle.hpe_base.specs.declared.profile.Order.TheVariants.{P4, P16}
+use Rattle.hpe_base.specs.Validity.{columns_of, is_columns, order_of, first_failing}
+use Rattle.hpe_base.specs.declared.profile.Order.TheVariants.{P4, P16, P256}
 
 -- the built-in codeword marker follows its formula
 marker : tabulate 16 (λ i. 5 * i * (i + 1) / 2 % 16) ≡ basic.marker
@@ -87,3 +88,18 @@ marker_sums = refl
 -- the least of the places of the greatest value
 least : map (least_greatest (slice_index (3 ∷ 5 ∷ 1 ∷ 5 ∷ 2 ∷ []))) (1 ∷ 2 ∷ 5 ∷ []) ≡ 0 ∷ 1 ∷ 1 ∷ []
 least = refl
+
+-- two groups of flags with one space between them, and with two
+columns : columns_of (codes "110 010") ≡ (true ∷ true ∷ false ∷ []) ∷ (false ∷ true ∷ false ∷ []) ∷ []
+unfolding tabulate
+columns = refl
+
+columns_right : map is_columns (codes "110 010" ∷ codes "110  010" ∷ codes "110 " ∷ []) ≡ true ∷ false ∷ false ∷ []
+columns_right = refl
+
+orders : map order_of (pos 4 ∷ pos 5 ∷ pos 256 ∷ []) ≡ Some P4 ∷ None ∷ Some P256 ∷ []
+orders = refl
+
+first : first_failing {X = ℕ} ((0, true) ∷ (1, false) ∷ (2, false) ∷ []) ≡ Some 1
+unfolding first_failing
+first = refl

@@ -20,6 +20,7 @@ passes ((x, true) ∷ tests) zero d h b = refl
 passes ((x, true) ∷ tests) (suc i) d h b = passes tests i d h (omega arith)
 passes ((x, false) ∷ tests) i d h b = cc
 
+-- the parts of a conjunction of tests
 both-left : (a b : Bool) → (a && b) ≡ true → a ≡ true
 both-left true b h = refl
 both-left false b h = h
@@ -28,6 +29,7 @@ both-right : (a b : Bool) → (a && b) ≡ true → b ≡ true
 both-right true b h = h
 both-right false b h = cc
 
+-- the bounds of a number within a range
 within-low : (low high : ℕ) (z : ℤ) → within low high z ≡ true → low ≤ unsigned_abs z
 within-low low high (pos n) h = grind arith
 within-low low high (negsuc n) h = grind arith
@@ -36,11 +38,13 @@ within-high : (low high : ℕ) (z : ℤ) → within low high z ≡ true → unsi
 within-high low high (pos n) h = grind arith
 within-high low high (negsuc n) h = grind arith
 
+-- each column that a text writes has three flags
 columns-whole : (text : List ℕ) → All (λ column. length column ≡ 3) (columns_of text)
 columns-whole text = λ k d b.
     let below : k < (length text + 1) / 4 = omega (arith, length-tabulate ((length text + 1) / 4) (column_at text)) in
     ap length (get_or-tabulate ((length text + 1) / 4) (column_at text) k d below)
 
+-- where no key is out of its range, the parameters are within theirs
 pub in_range : (f : Fields) → first_out_of_range f ≡ None → IsInRange (parameters_of f)
 in_range f h =
     let at : (i : ℕ) → i < 14 → (get_or (ranges f) i (key.Order, true)).1 ≡ true = λ i b. passes (ranges f) i (key.Order, true) h b in
@@ -80,9 +84,11 @@ in_range f h =
       search_high = within-high 1 4 f.search (at 13 (lit< tt));
     }
 
+-- the same of equal parameters
 pub IsInRange-along : (p q : Parameters) → p ≡ q → IsInRange q → IsInRange p
 IsInRange-along p q e h = subst IsInRange (sym e) h
 
+-- and the order, the rate, the columns and the marker can be read
 pub order-some : (f : Fields) → first_out_of_range f ≡ None → is_some (order_of f.order) ≡ true
 order-some f h = passes (ranges f) 0 (key.Order, true) h (lit< tt)
 
@@ -95,6 +101,7 @@ columns-right f h = passes (ranges f) 7 (key.Order, true) h (lit< tt)
 pub marker-right : (f : Fields) → first_out_of_range f ≡ None → is_marker f.marker.now ≡ true
 marker-right f h = passes (ranges f) 10 (key.Order, true) h (lit< tt)
 
+-- parameters within their ranges that break no rule are valid
 pub is_valid : (p : Parameters) → IsInRange p → first_broken p ≡ None → IsValid p
 is_valid p r h =
     let at : (i : ℕ) → i < 7 → (get_or (rules p) i (rule.Window, true)).1 ≡ true = λ i b. passes (rules p) i (rule.Window, true) h b in

@@ -29,19 +29,17 @@ pub struct Measures {
 pub fn geometry(p: &Profile) -> Measures
     ensures { result ≡ measures_of p.now }
 {
-    let order = p.order();
-    let rate = p.rate();
-    let symbols = order.symbols();
-    let symbol_slots = p.repeat() * (5 * order.slots() / 4);
-    let marker = p.marker().len();
-    let depth = p.rows() * (p.rows() - 1) * p.delay();
+    let values = p.values();
+    let symbols = p.order().symbols();
+    let symbol_slots = values.symbol_slots();
+    let depth = values.depth();
     Measures {
-        steps: rate.steps(),
-        block: rate.block(),
+        steps: p.rate().steps(),
+        block: p.rate().block(),
         symbols,
         symbol_slots,
-        marker_slots: marker * symbol_slots,
-        period: (marker + symbols) * symbol_slots,
+        marker_slots: p.marker().len() * symbol_slots,
+        period: values.period(),
         depth,
         flush: depth.div_ceil(symbols),
     }

@@ -167,6 +167,14 @@ impl Profile {
         }
     }
 
+    /// The values, as they were read.
+    pub(crate) fn values(&self) -> &Values
+        ensures value { result.now ≡ self.now }
+        ensures valid { IsValid self.now }
+    {
+        &self.values
+    }
+
     /// The order of modulation.
     pub fn order(&self) -> Order
         ensures value { result ≡ self.now.order }
