@@ -1,12 +1,12 @@
 -- A channel interleaver of one row delays nothing and needs no flush.
-use Rattle.std.proofs.Common.{◌≡◌, ◌<◌, ◌≤◌, ◌+◌, ◌-◌, ◌*◌, ◌%◌, ◌++◌, ℕ, List, length, get_or, ap, sym, ◌∙◌, refl, arith, append-nil, min}
+use Rattle.std.proofs.Common.{◌≡◌, ◌<◌, ◌+◌, ◌-◌, ◌*◌, ◌%◌, ◌++◌, ℕ, List, length, get_or, ap, sym, ◌∙◌, refl, arith, append-nil}
 use Rattle.std.specs.Prelude.{if◌then◌else◌, nat_le, slice_index, ◌==◌}
 use Rattle.std.specs.Int.{div_ceil}
 use Rattle.std.proofs.Math.Nat.{zero-mul, mul-zero}
 use Rattle.std.proofs.lemmas.Bool.Decides.{nat_tests}
 use Rattle.hpe_base.specs.Lists.{joined}
 use Rattle.hpe_base.specs.Bits.{zeros}
-use Rattle.hpe_base.specs.Parameters.{Parameters, codeword_symbols, interleaver_depth}
+use Rattle.hpe_base.specs.Parameters.{Parameters, codeword_symbols}
 use Rattle.hpe_base.specs.Frames.{bit_stream}
 use Rattle.hpe_base.specs.Slicer.{block_count}
 use Rattle.hpe_base.specs.Codeword.{word_symbols}

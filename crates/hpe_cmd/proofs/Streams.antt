@@ -1,13 +1,9 @@
 -- Bits that are appended one after another.
-use Rattle.std.proofs.Common.{◌≡◌, ◌≤◌, ◌<◌, ◌+◌, ◌-◌, ◌*◌, ◌/◌, ◌^◌, ◌++◌, ℕ, List, [], ◌∷◌, length, get_or, take, ap, sym, ◌∙◌, refl, arith, append_assoc, bit_and, inl, inr, length-append, zero, suc, drop, append-nil}
+use Rattle.std.proofs.Common.{◌≡◌, ◌≤◌, ◌<◌, ◌+◌, ◌-◌, ◌*◌, ◌/◌, ◌^◌, ◌++◌, ℕ, List, [], ◌∷◌, length, get_or, take, ap, sym, ◌∙◌, refl, arith, append_assoc, bit_and, length-append, zero, suc, drop, append-nil}
 use Rattle.std.proofs.lemmas.List.{length-take, length-replicate}
 use Rattle.std.specs.Prelude.{replicate}
 use Rattle.std.proofs.lemmas.Nat.{div-add-mod'}
-use Rattle.std.proofs.lemmas.Bool.{cases_lt}
-use Rattle.std.proofs.lemmas.List.{get_or_past}
 use Rattle.std.proofs.lemmas.List.Elements.{All-append, All-replicate}
-use Rattle.std.specs.Prelude.{slice_range}
-use Rattle.std.specs.Int.{bit_at}
 use Rattle.std.proofs.lemmas.List.{take_more}
 use Rattle.std.proofs.Math.Seq.{take-length}
 use Rattle.std.proofs.lemmas.Nat.Bits.{shr_and_one}

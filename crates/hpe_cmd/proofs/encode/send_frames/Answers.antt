@@ -1,9 +1,7 @@
-use Rattle.std.proofs.Common.{◌≡◌, ◌≤◌, ◌*◌, ◌/◌, ◌∙◌, ap, sym, arith, length, List, ℕ, [], refl}
-use Rattle.hpe_base.specs.Lists.{joined}
+use Rattle.std.proofs.Common.{◌≡◌, ◌*◌, ◌/◌, ◌∙◌, ap, arith, length, [], refl}
 use Rattle.hpe_base.specs.Parameters.{block_bits}
 use Rattle.hpe_base.specs.Slicer.{block_count}
-use Rattle.hpe_base.specs.Codeword.{word_symbols}
-use Rattle.hpe_base.specs.Slots.{slots_to, slots_of}
+use Rattle.hpe_base.specs.Slots.{slots_of}
 use Rattle.hpe_base.proofs.ParameterLemmas.{code_steps-ge}
 use Rattle.hpe_cmd.specs.Encoding.{filled_stream}
 use Rattle.hpe_cmd.proofs.Codewords.{sent_all}

@@ -1,12 +1,10 @@
-use Rattle.std.proofs.Common.{◌≡◌, ◌≤◌, ◌*◌, ◌-◌, ◌++◌, ◌<◌, arith, ◌∙◌, ap, sym, length, subst}
+use Rattle.std.proofs.Common.{◌≡◌, arith, ◌∙◌, ap, sym, length, subst}
 use Rattle.std.specs.Int.{div_ceil}
-use Rattle.std.proofs.lemmas.Grind.{common_steps, div_ceil_times}
-use Rattle.hpe_base.specs.Bits.{AreBits, zeros}
-use Rattle.hpe_base.specs.Frames.{bit_stream}
+use Rattle.std.proofs.lemmas.Grind.{common_steps}
+use Rattle.hpe_base.specs.Bits.{AreBits}
 use Rattle.hpe_base.specs.Parameters.{block_bits}
 use Rattle.hpe_base.proofs.ParameterLemmas.{code_steps-ge}
-use Rattle.hpe_cmd.specs.Encoding.{filled_stream}
-use Rattle.hpe_cmd.proofs.Streams.{filled, length-filled_stream, are_bits-filled_stream, length-bit_stream-le}
+use Rattle.hpe_cmd.proofs.Streams.{filled, length-filled_stream, are_bits-filled_stream}
 use Rattle.hpe_cmd.proofs.stream.block_stream.Goals as goal
 
 pub returns-clause-value : goal.returns-clause-value
