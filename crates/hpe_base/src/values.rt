@@ -1,8 +1,8 @@
 //! The values of a profile, each within its range, before it is known that they agree with each other.
-ghost use Rattle.std.specs.Prelude.{◌≡◌, ◌<◌, ◌≤◌, ◌*◌, ◌^◌, length, None, IsTrue, map, nat_le, nat_lt, sum_by, unsigned_abs};
+ghost use Rattle.std.specs.Prelude.{◌≡◌, ◌<◌, ◌≤◌, ◌*◌, ◌^◌, length, None, nat_le, nat_lt, sum_by};
 ghost use Rattle.std.specs.List.{list_all};
 ghost use Rattle.hpe_base.specs.Parameters.{flags_set, positions, symbol_slots, period_slots, interleaver_depth};
-ghost use Rattle.hpe_base.specs.Validity.{within, order_of, rate_of, columns_of, is_check, is_column_character, is_columns, is_marker, first_failing, first_out_of_range, parameters_of, first_broken};
+ghost use Rattle.hpe_base.specs.Validity.{within, columns_of, first_failing, first_out_of_range, parameters_of, first_broken};
 
 use crate::fault::{Rule, first_failing};
 use crate::fields::{Fields, MOST_COLUMNS, MOST_MARKER_SYMBOLS, columns_of, marker_of, natural};

@@ -1,13 +1,13 @@
 // Codewords with their markers, as slots.
 
-ghost use Rattle.std.specs.Prelude.{◌≡◌, ◌≤◌, ◌<◌, ◌/◌, ◌*◌, [], ◌++◌, length, All, OnOk, OnErr, IsErrOf};
+ghost use Rattle.std.specs.Prelude.{◌≡◌, ◌≤◌, ◌<◌, ◌/◌, ◌*◌, [], ◌++◌, length, All, OnOk, OnErr};
 ghost use Rattle.std.specs.List.{flat_map};
 ghost use Rattle.hpe_base.specs.Bits.{AreBits};
 ghost use Rattle.hpe_base.specs.Lists.{joined};
 ghost use Rattle.hpe_base.specs.Parameters.{positions, block_bits};
 ghost use Rattle.hpe_base.specs.Codeword.{word_symbols};
 ghost use Rattle.hpe_base.specs.Slots.{pulses_of, slots_to};
-ghost use Rattle.hpe_io.specs.Devices.{GrowsByFront, HasCause, Grows};
+ghost use Rattle.hpe_io.specs.Devices.{HasCause, Grows};
 ghost use Rattle.hpe_cmd.specs.Outgoing.{IsPending};
 
 use crate::outbox::Outbox;

@@ -15,11 +15,6 @@ pub append_twice : (xs ys : List ℕ) (known : Option (List ℕ))
 append_twice xs ys None = refl
 append_twice xs ys (Some zs) = ap Some (append_assoc zs xs ys)
 
--- no octet was taken
-pub prepend_nothing : (known : Option (List ℕ)) → prepend_known [] known ≡ known
-prepend_nothing None = refl
-prepend_nothing (Some zs) = refl
-
 -- no octet was written
 pub append_nothing : (known : Option (List ℕ)) → append_known known [] ≡ known
 append_nothing None = refl

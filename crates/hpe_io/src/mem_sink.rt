@@ -1,5 +1,5 @@
 //! A sink that keeps what it is given in memory.
-ghost use Rattle.std.specs.Prelude.{◌≡◌, ◌<◌, ◌≤◌, ◌-◌, ◌+◌, ◌++◌, ◌↔◌, ◌⊎◌, Contains, IfOk, IsErr, IsTrue, OnErr, OnOk, Some, [], length, take};
+ghost use Rattle.std.specs.Prelude.{◌≡◌, ◌<◌, ◌≤◌, ◌-◌, ◌+◌, ◌++◌, ◌↔◌, ◌⊎◌, IfOk, IsErr, IsTrue, OnErr, OnOk, Some, [], length};
 ghost use Rattle.hpe_io.specs.Devices.{HasCause, Puts, next_count};
 ghost use Rattle.hpe_io.specs.Memory.{IsToFail, PassesRoom, first_half, fitting, mark_of};
 
