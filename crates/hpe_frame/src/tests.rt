@@ -1,0 +1,87 @@
+ghost use Rattle.std.specs.Prelude.{◌≡◌};
+
+use crate::FrameFeed;
+use hpe_base::{Fields, Profile};
+use std::test::Fail;
+
+/// The frame marker of the built-in profile, 1ACFFC1D.
+const MARKER: [u8; 32] = [
+    0, 0, 0, 1, 1, 0, 1, 0, // 1A
+    1, 1, 0, 0, 1, 1, 1, 1, // CF
+    1, 1, 1, 1, 1, 1, 0, 0, // FC
+    0, 0, 0, 1, 1, 1, 0, 1, // 1D
+];
+
+/// Feeds so many octets that are 0, and counts the frames that they complete.
+fn feed_zeros(feed: &mut FrameFeed, count: u32) -> u32
+    ensures { feed.new.parameters ≡ feed.old.parameters }
+{
+    let mut frames = 0;
+    for _ in 0..count {
+        if feed.feed(0) {
+            frames += 1;
+        }
+    }
+    frames
+}
+
+#[test]
+fn ends_of_frames(rt: HostRuntime) -> Result<(), Fail> {
+    let mut feed = FrameFeed::new(rt.alloc(), &Profile::basic())?;
+    assert_eq!(rt; feed.rest(), 0);
+    for (octets, frames, rest) in [(99, 0, 99), (1, 1, 0), (99, 0, 99), (1, 1, 0), (1, 0, 1)] {
+        assert_eq!(rt; feed_zeros(&mut feed, octets), frames);
+        assert_eq!(rt; feed.rest(), rest);
+    }
+    Ok(())
+}
+
+#[test]
+fn bits_of_a_frame(rt: HostRuntime) -> Result<(), Fail> {
+    let mut feed = FrameFeed::new(rt.alloc(), &Profile::basic())?;
+    feed_zeros(&mut feed, 7);
+    feed.feed(0x10);
+    feed_zeros(&mut feed, 91);
+    let whole = feed.feed(0);
+    assert!(rt; whole);
+    for (i, bit) in MARKER.iter().enumerate() {
+        assert_eq!(rt; feed.bit(i), *bit);
+    }
+    for (i, bit) in [(2, 0), (3, 1), (4, 0)] {
+        assert_eq!(rt; feed.bit(32 + 8 * 7 + i), bit);
+    }
+    Ok(())
+}
+
+#[test]
+fn frames_of_one_octet(rt: HostRuntime) -> Result<(), Fail> {
+    let p = Profile::new(&Fields {
+        order: 16,
+        rate: "1/3",
+        frame_octets: 1,
+        frame_marker: 0x8000_0001,
+        taps: 169,
+        seed: 255,
+        check: 537_149_449,
+        columns: "111",
+        rows: 1,
+        delay: 1,
+        marker: &[0],
+        repeat: 1,
+        rounds: 16,
+        search: 1,
+    })?;
+    let mut feed = FrameFeed::new(rt.alloc(), &p)?;
+    for (octet, bits) in [
+        (0xA1, [1, 0, 1, 0, 0, 0, 0, 1]),
+        (0x1E, [0, 0, 0, 1, 1, 1, 1, 0]),
+    ] {
+        let whole = feed.feed(octet);
+        assert!(rt; whole);
+        for (i, bit) in bits.iter().enumerate() {
+            assert_eq!(rt; feed.bit(32 + i), *bit);
+        }
+        assert_eq!(rt; feed.rest(), 0);
+    }
+    Ok(())
+}
