@@ -114,7 +114,7 @@ passes p s x i y xs ys h e was moved =
           ∙ sym (waiting_is p (s ++ x ∷ []) i);
     }
 
--- row 0 has no ring
+-- the first row has no ring
 pub passes_straight : (p : Parameters) (s : List ℕ) (x : ℕ) → 0 < p.rows → length s % p.rows ≡ 0 → x ≡ channel_at p (s ++ x ∷ []) (length s)
 passes_straight p s x h e = (passes p s x 0 x [] [] h e (sym (nil_from_length (waiting p s 0) (let l = length-waiting p s 0 in omega arith))) refl).out
 
@@ -126,7 +126,7 @@ waits p s x i h ne = ap (λ (l : List ℕ). keep_last (i * p.delay) (zeros (i * 
 pub next_row : (rows n t next : ℕ) → t ≡ n % rows → next ≡ (t + 1) % rows → next ≡ (n + 1) % rows
 next_row rows n t next e r = r ∙ ap (λ (k : ℕ). (k + 1) % rows) e ∙ mod-add-mod n rows 1
 
--- a push on row 0
+-- a push on the first row
 pub step_straight : (p : Parameters) (rs : List (Buffer ℕ)) (t next x : ℕ) (s : List ℕ) → t ≡ 0 → 0 < p.rows → next ≡ (t + 1) % p.rows
     → HasWoven (record { parameters = p; rings = rs; turn = t }) s → HasWoven (record { parameters = p; rings = rs; turn = next }) (s ++ x ∷ [])
 step_straight p rs t next x s z pos r was = record {

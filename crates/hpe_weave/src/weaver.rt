@@ -15,7 +15,7 @@ use std::marker::Model;
 #[derive(Drop)]
 pub struct Weaver {
     profile: Profile,
-    /// The symbols that wait on each row but row 0, which has no delay.
+    /// The symbols that wait on each row but the first, which has no delay.
     rings: Vec<HeapCircularBuffer<u8>>,
     /// The row of the next push.
     turn: usize,
