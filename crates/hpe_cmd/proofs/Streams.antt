@@ -1,8 +1,7 @@
 -- Bits that are appended one after another.
-use Rattle.std.proofs.Common.{◌≡◌, ◌≤◌, ◌<◌, ◌+◌, ◌-◌, ◌*◌, ◌/◌, ◌^◌, ◌++◌, ℕ, List, [], ◌∷◌, length, get_or, take, ap, sym, ◌∙◌, refl, arith, append_assoc, bit_and, length-append, zero, suc, drop, append-nil}
-use Rattle.std.proofs.lemmas.List.{length-take, length-replicate}
+use Rattle.std.proofs.Common.{◌≡◌, ◌<◌, ◌+◌, ◌-◌, ◌*◌, ◌/◌, ◌^◌, ◌++◌, ℕ, List, [], ◌∷◌, length, get_or, take, ap, sym, ◌∙◌, refl, arith, append_assoc, bit_and, length-append, append-nil}
+use Rattle.std.proofs.lemmas.List.{length-replicate}
 use Rattle.std.specs.Prelude.{replicate}
-use Rattle.std.proofs.lemmas.Nat.{div-add-mod'}
 use Rattle.std.proofs.lemmas.List.Elements.{All-append, All-replicate}
 use Rattle.std.proofs.lemmas.List.{take_more}
 use Rattle.std.proofs.Math.Seq.{take-length}
@@ -14,7 +13,7 @@ use Rattle.hpe_base.specs.Bits.{AreBits, bits_of, octet_bits, zeros}
 use Rattle.hpe_base.specs.Parameters.{Parameters, block_bits}
 use Rattle.hpe_base.specs.Slicer.{block_count}
 use Rattle.hpe_base.specs.Frames.{frame, frame_bits, bit_stream, frame_count}
-use Rattle.hpe_base.proofs.BitLists.{length-bits_of, get_or-bits_of, are_bits-bits_of, are_bits-joined, are_bits-octet_bits, length-octet_bits}
+use Rattle.hpe_base.proofs.BitLists.{length-bits_of, get_or-bits_of, are_bits-bits_of, are_bits-joined, are_bits-octet_bits}
 use Rattle.hpe_base.proofs.Tabulated.{joined-more}
 use Rattle.hpe_cmd.specs.Encoding.{filled_stream}
 
@@ -56,27 +55,6 @@ are_bits-bit_stream p octets =
 pub whole : (p : Parameters) (octets : List ℕ) (f size : ℕ) (bits : List ℕ) → bits ≡ joined f (frame_bits p octets) → f ≡ length octets / size → size ≡ p.frame_octets →
     bits ≡ bit_stream p octets
 whole p octets f size bits b e s = b ∙ stream_all p octets f (e ∙ ap (λ n. length octets / n) s)
-
-pub length-joined-le-each : (n c : ℕ) (f : ℕ → List ℕ) → ((k : ℕ) → length (f k) ≤ c) → length (joined n f) ≤ n * c
-unfolding joined
-length-joined-le-each zero c f h = omega arith
-length-joined-le-each (suc n) c f h =
-    let next : suc n * c ≡ n * c + c = grind arith in
-    omega (arith, length-joined-le-each n c f h, h n, length-append (joined n f) (f n))
-
-pub length-frame-le : (p : Parameters) (octets : List ℕ) (f : ℕ) → length (frame p octets f) ≤ p.frame_octets
-length-frame-le p octets f =
-    omega (arith, length-take (f * p.frame_octets + p.frame_octets - f * p.frame_octets) (drop (f * p.frame_octets) octets))
-
-pub length-bit_stream-le : (p : Parameters) (octets : List ℕ) → 1 ≤ p.frame_octets → length (bit_stream p octets) ≤ 40 * length octets
-unfolding bit_stream
-length-bit_stream-le p octets low =
-    let each : length (joined (frame_count p octets) (frame_bits p octets)) ≤ frame_count p octets * (40 * p.frame_octets) =
-    length-joined-le-each (frame_count p octets) (40 * p.frame_octets) (frame_bits p octets) (λ f.
-    omega (arith, length-append (bits_of 32 p.frame_marker) (octet_bits (frame p octets f)), length-bits_of 32 p.frame_marker, length-octet_bits (frame p octets f), length-frame-le p octets f)) in
-    let order : frame_count p octets * (40 * p.frame_octets) ≡ 40 * (frame_count p octets * p.frame_octets) = grind arith in
-    let all : frame_count p octets * p.frame_octets ≤ length octets = omega (arith, div-add-mod' (length octets) p.frame_octets) in
-    omega arith
 
 -- one zero more
 pub fill_more : (start mid new : List ℕ) (n m : ℕ) → mid ≡ start ++ zeros n → new ≡ mid ++ 0 ∷ [] → m ≡ n + 1 → new ≡ start ++ zeros m
