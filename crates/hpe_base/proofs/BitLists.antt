@@ -3,7 +3,8 @@ use Rattle.std.proofs.Common.{◌≡◌, ◌++◌, ◌+◌, ◌-◌, ◌*◌, �
 use Rattle.std.specs.Int.{bit_at}
 use Rattle.std.proofs.lemmas.Nat.{mod-pow-add, div-add-mod', xor_lt}
 use Rattle.std.proofs.lemmas.Nat.Bits.{bit_at_xor, bit_at_cat_low, bit_at-suc, bit_at-lt, bit_at_lowest}
-use Rattle.std.proofs.lemmas.List.Elements.{All-append}
+use Rattle.std.proofs.lemmas.List.{length-replicate}
+use Rattle.std.proofs.lemmas.List.Elements.{All-append, All-replicate}
 use Rattle.hpe_base.specs.Lists.{joined}
 use Rattle.hpe_base.specs.Bits.{bits_of, octet_bits, number_of, xor, AreBits, zeros}
 use Rattle.hpe_base.specs.Check.{add_front}
@@ -122,3 +123,11 @@ pub length-octet_bits : (octets : List ℕ) → length (octet_bits octets) ≡ 8
 length-octet_bits [] = refl
 length-octet_bits (o ∷ octets) =
     omega (arith, length-octet_bits octets, length-bits_of 8 o, length-append (bits_of 8 o) (octet_bits octets))
+
+pub length-zeros : (n : ℕ) → length (zeros n) ≡ n
+unfolding zeros
+length-zeros n = length-replicate n 0
+
+pub are_bits-zeros : (n : ℕ) → AreBits (zeros n)
+unfolding zeros
+are_bits-zeros n = All-replicate (λ b. b < 2) n 0 (omega arith)

@@ -20,15 +20,6 @@ positions-lt P64 = lit< tt
 positions-lt P128 = lit< tt
 positions-lt P256 = lit< tt
 
-pub sending_slots-le : (o : Order) → sending_slots o ≤ 320
-sending_slots-le P4 = lit≤ tt
-sending_slots-le P8 = lit≤ tt
-sending_slots-le P16 = lit≤ tt
-sending_slots-le P32 = lit≤ tt
-sending_slots-le P64 = lit≤ tt
-sending_slots-le P128 = lit≤ tt
-sending_slots-le P256 = lit≤ tt
-
 pub codeword_symbols-ge : (o : Order) → 1890 ≤ codeword_symbols o
 codeword_symbols-ge P4 = lit≤ tt
 codeword_symbols-ge P8 = lit≤ tt
@@ -37,15 +28,6 @@ codeword_symbols-ge P32 = lit≤ tt
 codeword_symbols-ge P64 = lit≤ tt
 codeword_symbols-ge P128 = lit≤ tt
 codeword_symbols-ge P256 = lit≤ tt
-
-pub codeword_symbols-le : (o : Order) → codeword_symbols o ≤ 7560
-codeword_symbols-le P4 = lit≤ tt
-codeword_symbols-le P8 = lit≤ tt
-codeword_symbols-le P16 = lit≤ tt
-codeword_symbols-le P32 = lit≤ tt
-codeword_symbols-le P64 = lit≤ tt
-codeword_symbols-le P128 = lit≤ tt
-codeword_symbols-le P256 = lit≤ tt
 
 pub symbol_bits-pos : (o : Order) → 0 < symbol_bits o
 symbol_bits-pos P4 = lit< tt

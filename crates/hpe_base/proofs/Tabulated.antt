@@ -1,6 +1,7 @@
 -- Lemmas on lists that are given by their places or piece by piece.
-use Rattle.std.proofs.Common.{◌≡◌, ◌++◌, ◌+◌, ◌*◌, ◌<◌, ◌≤◌, ℕ, List, [], ◌∷◌, refl, length, get_or, sym, ◌∙◌, ap, arith, zero, suc, add-one, length-append, append_assoc, inl, inr, add-zero, append-nil}
+use Rattle.std.proofs.Common.{◌≡◌, ◌++◌, ◌+◌, ◌*◌, ◌<◌, ◌≤◌, ℕ, List, [], ◌∷◌, refl, length, get_or, sum, sym, ◌∙◌, ap, arith, zero, suc, add-one, length-append, append_assoc, inl, inr, add-zero, append-nil}
 use Rattle.std.proofs.lemmas.Bool.{cases_eq}
+use Rattle.std.proofs.lemmas.List.Sums.{sum_by_push}
 use Rattle.std.proofs.lemmas.List.FromFn.{length-map-range_with_len, get_or-map-range_with_len, map-range_with_len_more, fill_by_all}
 use Rattle.hpe_base.specs.Lists.{tabulate, joined}
 
@@ -81,3 +82,14 @@ joined-tabulate (suc n) m f =
     let next : suc n * m ≡ n * m + m = grind arith in
     ap (λ xs. xs ++ tabulate m (λ i. f (n * m + i))) (joined-tabulate n m f)
     ∙ sym (ap (λ k. tabulate k f) next ∙ tabulate-append (n * m) m f)
+
+-- a sum over no place
+pub sum-tabulate-none : (f : ℕ → ℕ) → sum (tabulate 0 f) ≡ 0
+sum-tabulate-none f = ap sum (tabulate-none f)
+
+-- a sum over one more place
+pub sum-tabulate-more : (n : ℕ) (f : ℕ → ℕ) → sum (tabulate (n + 1) f) ≡ sum (tabulate n f) + f n
+sum-tabulate-more n f = ap sum (tabulate-more n f) ∙ sum_by_push (λ x. x) (tabulate n f) (f n)
+
+pub sum-tabulate-suc : (n : ℕ) (f : ℕ → ℕ) → sum (tabulate (suc n) f) ≡ sum (tabulate n f) + f n
+sum-tabulate-suc n f = ap sum (tabulate-suc n f) ∙ sum_by_push (λ x. x) (tabulate n f) (f n)

@@ -6,13 +6,8 @@ use Rattle.std.proofs.Math.Nat.{mod-eq_of_lt}
 use Rattle.std.proofs.lemmas.Nat.{mod-pow-add, mod_below, ones_cat, and_le_l, and_mask, or_shifted, pow_pos}
 use Rattle.std.proofs.lemmas.Nat.Bits.{bit_at_and, bit_at-lt, bit_at-suc, bit_at_lowest, bit_at_cat_low, bit_at_cat_high}
 use Rattle.std.proofs.lemmas.Bool.{cases_eq}
-use Rattle.std.proofs.lemmas.List.Sums.{sum_by-append}
 use Rattle.hpe_base.specs.Lists.{tabulate}
-use Rattle.hpe_base.proofs.Tabulated.{tabulate-none, tabulate-suc, tabulate-same}
-
--- a sum over one more place
-sum-tabulate-suc : (n : ℕ) (f : ℕ → ℕ) → sum (tabulate (suc n) f) ≡ sum (tabulate n f) + f n
-sum-tabulate-suc n f = ap sum (tabulate-suc n f) ∙ (sum_by-append (λ x. x) (tabulate n f) (f n ∷ []) ∙ omega arith)
+use Rattle.hpe_base.proofs.Tabulated.{tabulate-none, tabulate-same, sum-tabulate-suc}
 
 -- the set bits of a number of one bit
 ones_of_bit : (b : ℕ) → b < 2 → count_ones b ≡ b

@@ -1,8 +1,7 @@
 -- Bits that are appended one after another.
 use Rattle.std.proofs.Common.{◌≡◌, ◌<◌, ◌+◌, ◌-◌, ◌*◌, ◌/◌, ◌^◌, ◌++◌, ℕ, List, [], ◌∷◌, length, get_or, take, ap, sym, ◌∙◌, refl, arith, append_assoc, bit_and, length-append, append-nil}
-use Rattle.std.proofs.lemmas.List.{length-replicate}
 use Rattle.std.specs.Prelude.{replicate}
-use Rattle.std.proofs.lemmas.List.Elements.{All-append, All-replicate}
+use Rattle.std.proofs.lemmas.List.Elements.{All-append}
 use Rattle.std.proofs.lemmas.List.{take_more}
 use Rattle.std.proofs.Math.Seq.{take-length}
 use Rattle.std.proofs.lemmas.Nat.Bits.{shr_and_one}
@@ -13,7 +12,7 @@ use Rattle.hpe_base.specs.Bits.{AreBits, bits_of, octet_bits, zeros}
 use Rattle.hpe_base.specs.Parameters.{Parameters, block_bits}
 use Rattle.hpe_base.specs.Slicer.{block_count}
 use Rattle.hpe_base.specs.Frames.{frame, frame_bits, bit_stream, frame_count}
-use Rattle.hpe_base.proofs.BitLists.{length-bits_of, get_or-bits_of, are_bits-bits_of, are_bits-joined, are_bits-octet_bits}
+use Rattle.hpe_base.proofs.BitLists.{length-bits_of, get_or-bits_of, are_bits-bits_of, are_bits-joined, are_bits-octet_bits, length-zeros, are_bits-zeros}
 use Rattle.hpe_base.proofs.Tabulated.{joined-more}
 use Rattle.hpe_cmd.specs.Encoding.{filled_stream}
 
@@ -66,14 +65,6 @@ fill_more start mid new n m h e k =
 pub fill_none : (start : List ℕ) (n : ℕ) → n ≡ 0 → start ≡ start ++ zeros n
 unfolding zeros
 fill_none start n e = rw e (sym (append-nil start))
-
-pub length-zeros : (n : ℕ) → length (zeros n) ≡ n
-unfolding zeros
-length-zeros n = length-replicate n 0
-
-pub are_bits-zeros : (n : ℕ) → AreBits (zeros n)
-unfolding zeros
-are_bits-zeros n = All-replicate (λ b. b < 2) n 0 (omega arith)
 
 pub length-filled_stream : (p : Parameters) (octets : List ℕ) → 0 < block_bits p.rate →
     length (filled_stream p octets) ≡ block_count p octets * block_bits p.rate

@@ -3,10 +3,9 @@ use Rattle.std.proofs.Common.{◌≡◌, ◌≤◌, ◌<◌, ◌+◌, ◌*◌, �
 use Rattle.std.specs.List.{between}
 use Rattle.std.proofs.lemmas.List.Edits.{get_or-between}
 use Rattle.hpe_base.specs.Lists.{tabulate}
-use Rattle.hpe_base.proofs.Tabulated.{tabulate_from_places}
+use Rattle.hpe_base.proofs.Tabulated.{tabulate_from_places, sum-tabulate-more, sum-tabulate-none}
 use Rattle.hpe_base.specs.Parameters.{Parameters, sending_slots, positions}
 use Rattle.hpe_base.specs.ReceivedWords.{symbol_sums}
-use Rattle.hpe_slots.proofs.RunningSums.{sum-tabulate-more, sum-tabulate-none}
 
 -- the places below n have their counts added, and the others are as before
 pub record Adding (n : ℕ) (counts before now : List ℕ) : Type 0 where

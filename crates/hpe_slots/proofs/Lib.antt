@@ -1,4 +1,3 @@
 mod Gathering
 mod Pulses
-mod RunningSums
 mod Scoring

@@ -6,8 +6,7 @@ use Rattle.std.proofs.lemmas.Nat.{row_fits}
 use Rattle.hpe_base.specs.Lists.{tabulate}
 use Rattle.hpe_base.specs.Parameters.{Parameters, sending_slots, symbol_slots}
 use Rattle.hpe_base.specs.MarkerSearch.{marker_sum, pulse_place}
-use Rattle.hpe_base.proofs.Tabulated.{tabulate-same}
-use Rattle.hpe_slots.proofs.RunningSums.{sum-tabulate-more, sum-tabulate-none}
+use Rattle.hpe_base.proofs.Tabulated.{tabulate-same, sum-tabulate-more, sum-tabulate-none}
 
 -- the count at the pulse of sending i
 abbrev pub pulse_count : ℕ → ℕ → List ℕ → ℕ → ℕ

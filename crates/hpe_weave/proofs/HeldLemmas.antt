@@ -3,11 +3,11 @@ use Rattle.std.proofs.Common.{◌≡◌, ◌<◌, ◌≤◌, ◌+◌, ◌-◌, �
 use Rattle.std.proofs.lemmas.Bool.{cases_lt}
 use Rattle.std.proofs.lemmas.Nat.{mul-le}
 use Rattle.std.proofs.lemmas.List.{length-drop, take_all}
-use Rattle.std.proofs.lemmas.List.Sums.{sum_by-append, sum_by_more}
+use Rattle.std.proofs.lemmas.List.Sums.{sum_by_more}
 use Rattle.circular_buffer.specs.Buffer.{Buffer, buffer}
 use Rattle.hpe_base.specs.Lists.{tabulate}
 use Rattle.hpe_base.specs.Parameters.{Parameters, positions, interleaver_depth}
-use Rattle.hpe_base.proofs.Tabulated.{tabulate-suc, tabulate-none}
+use Rattle.hpe_base.proofs.Tabulated.{tabulate-none, sum-tabulate-suc}
 use Rattle.hpe_weave.specs.Turns.{turns, joined_on_row}
 use Rattle.hpe_weave.specs.Unweaving.{held_turns, gathered, held_after}
 use Rattle.hpe_weave.proofs.UnweaverLemmas.{length-on, whole, none}
@@ -34,11 +34,6 @@ length-gathered p g i h all =
     ∙ ap (λ (k : ℕ). k - (k - held_turns p i * positions p.order)) l
     ∙ times-min (positions p.order) (turns p.rows (length g) i) (held_turns p i)
 
--- a sum over places, and one place more
-pub sum-tabulate : (n : ℕ) (f : ℕ → ℕ) → sum (tabulate (suc n) f) ≡ sum (tabulate n f) + f n
-sum-tabulate n f =
-    ap sum (tabulate-suc n f) ∙ sum_by-append (λ x. x) (tabulate n f) (f n ∷ []) ∙ (let z : 0 + f n ≡ f n = omega arith in ap (λ (k : ℕ). sum (tabulate n f) + k) z)
-
 -- the products of one row further
 half-products : (n m b : ℕ) → n * (n + 1 + (m + m)) * b + (m * b + m * b) ≡ suc n * (n + (m + m)) * b
 half-products n m b = grind arith
@@ -57,7 +52,7 @@ half zero m b f h = rw (tabulate-none f) (omega arith)
 half (suc n) m b f h =
     let ih : sum (tabulate n f) + sum (tabulate n f) ≤ n * (n + (m + 1 + (m + 1)) - 1) * b = half n (m + 1) b f (λ i j e. h i j (omega arith)) in
     let last : f n ≤ m * b = h n m (omega arith) in
-    let s : sum (tabulate (suc n) f) ≡ sum (tabulate n f) + f n = sum-tabulate n f in
+    let s : sum (tabulate (suc n) f) ≡ sum (tabulate n f) + f n = sum-tabulate-suc n f in
     let e : n * (n + (m + 1 + (m + 1)) - 1) * b + (m * b + m * b) ≡ suc n * (suc n + (m + m) - 1) * b = half-step n m b in
     rw (s, ← e) (omega arith)
 
@@ -112,7 +107,7 @@ module _ (p : Parameters) (g : List (List ℕ)) (rs : List (Buffer ℕ)) (all : 
       ∙ sum_by_more (λ (ring : Buffer ℕ). length ring.items) rs n d (omega arith)
       ∙ (λ i. first-rings n (omega arith) i + row i)
       ∙ times-sum (positions p.order) (sum (tabulate n f)) (f n)
-      ∙ ap (λ (k : ℕ). positions p.order * k) (sym (sum-tabulate n f))
+      ∙ ap (λ (k : ℕ). positions p.order * k) (sym (sum-tabulate-suc n f))
 
   -- all rings; the last row has none
   pub all-rings : (n sums : ℕ) → length rs ≤ n → sums ≡ sum_by (λ ring. length ring.items) (take n rs) → sums ≡ held_after p (length g)
@@ -127,5 +122,5 @@ module _ (p : Parameters) (g : List (List ℕ)) (rs : List (Buffer ℕ)) (all : 
       e
       ∙ ap (λ (l : List (Buffer ℕ)). sum_by (λ (ring : Buffer ℕ). length ring.items) l) (take_all n rs h ∙ sym (take_all m rs (omega arith)))
       ∙ first-rings m (omega arith)
-      ∙ ap (λ (k : ℕ). positions p.order * k) (sym (sum-tabulate m f ∙ end))
+      ∙ ap (λ (k : ℕ). positions p.order * k) (sym (sum-tabulate-suc m f ∙ end))
       ∙ ap (λ (k : ℕ). positions p.order * sum (tabulate k f)) rows

@@ -16,7 +16,7 @@ use Rattle.hpe_weave.specs.Laws.{returned, ComesBack, ChannelInterleaverIsUndone
 use Rattle.hpe_weave.proofs.Channels.{delay_at-le}
 use Rattle.hpe_weave.proofs.TurnLemmas.{next-row}
 use Rattle.hpe_weave.proofs.UnweaverLemmas.{same-row}
-use Rattle.hpe_weave.proofs.WeaverLemmas.{length-zeros}
+use Rattle.hpe_base.proofs.BitLists.{length-zeros}
 
 -- a delay in whole turns
 delay-turns : (r rows delay : ℕ) → r * rows * delay ≡ r * delay * rows

@@ -3,11 +3,12 @@ use Rattle.std.proofs.Common.{◌≡◌, ◌≢◌, ◌<◌, ◌≤◌, ◌+◌,
 use Rattle.std.proofs.Math.Nat.{mod-add-mod}
 use Rattle.std.proofs.lemmas.Bool.{cases_eq, cases_lt, le-leb, lt-leb, cond-true, cond-false}
 use Rattle.std.proofs.lemmas.Nat.{mul-le}
-use Rattle.std.proofs.lemmas.List.{nil_from_length, append-nil, get_or_push, get_or-set_same, get_or-set_other, length-replicate, length-drop, length_push, get_or_append_left, get_or-append_right, get_or-replicate, drop_more, drop-append-le}
+use Rattle.std.proofs.lemmas.List.{nil_from_length, append-nil, get_or_push, get_or-set_same, get_or-set_other, length-drop, length_push, get_or_append_left, get_or-append_right, get_or-replicate, drop_more, drop-append-le}
 use Rattle.circular_buffer.specs.Buffer.{Buffer, keep_last}
 use Rattle.hpe_base.specs.Bits.{zeros}
 use Rattle.hpe_base.specs.Parameters.{Parameters}
 use Rattle.hpe_base.specs.ChannelInterleaver.{delay_at, channel_at}
+use Rattle.hpe_base.proofs.BitLists.{length-zeros}
 use Rattle.hpe_base.proofs.Tabulated.{length-tabulate, get_or-tabulate}
 use Rattle.hpe_weave.specs.Turns.{turns, on_row}
 use Rattle.hpe_weave.specs.Weaving.{waiting, HasWoven, IsWeaving}
@@ -16,11 +17,6 @@ use Rattle.hpe_weave.proofs.TurnLemmas.{on_row-same, on_row-more, turns-now, tur
 -- how many values came on a row
 pub length-on_row : (rows : ℕ) (s : List ℕ) (i : ℕ) → length (on_row rows s i) ≡ turns rows (length s) i
 length-on_row rows s i = length-tabulate (turns rows (length s) i) (λ j. get_or s (j * rows + i) 0)
-
--- zeros are as many as they are said to be
-pub length-zeros : (n : ℕ) → length (zeros n) ≡ n
-unfolding zeros
-length-zeros n = length-replicate n 0
 
 -- a list whose first n items are dropped, with one item more behind, and its first item
 record Goes (xs : List ℕ) (x n y : ℕ) (ys : List ℕ) : Type 0 where
