@@ -1,6 +1,6 @@
 -- Worked numbers of the definitions.
-use Rattle.std.proofs.Common.{◌≡◌, ◌+◌, ◌*◌, ◌/◌, ◌%◌, ℕ, [], ◌∷◌, true, false, refl, map}
-use Rattle.std.specs.Prelude.{replicate, slice_index, codes, pos, Some, None}
+use Rattle.std.proofs.Common.{◌≡◌, ◌+◌, ◌*◌, ◌/◌, ◌%◌, ℕ, ℤ, List, [], ◌∷◌, ◌++◌, true, false, refl, map}
+use Rattle.std.specs.Prelude.{replicate, slice_index, codes, pos, negsuc, Some, None}
 use Rattle.hpe_base.specs.Lists.{tabulate, joined}
 use Rattle.hpe_base.specs.Bits.{bits_of, number_of, zeros}
 use Rattle.hpe_base.specs.Parameters.{basic, period_slots}
@@ -14,6 +14,9 @@ use Rattle.hpe_base.specs.ChannelInterleaver.{interleaved_channel, deinterleaved
 use Rattle.hpe_base.specs.Slots.{pulses_of}
 use Rattle.hpe_base.specs.MarkerSearch.{marker_sum, least_greatest}
 use Rattle.hpe_base.specs.ReceivedWords.{symbol_sums}
+use Rattle.hpe_base.specs.GreatestScores.{top_from, inner_top, information_top, code_top}
+use Rattle.hpe_base.specs.SoftValues.{inner_soft_value, information_soft_value, code_soft_value, clamped}
+use Rattle.hpe_base.specs.FrameScan.{scan_start, scan, scan_step, octets_of}
 use Rattle.hpe_base.specs.Validity.{columns_of, is_columns, order_of, first_failing}
 use Rattle.hpe_base.specs.declared.profile.Order.TheVariants.{P4, P16, P256}
 
@@ -103,3 +106,30 @@ orders = refl
 first : first_failing {X = ℕ} ((0, true) ∷ (1, false) ∷ (2, false) ∷ []) ≡ Some 1
 unfolding first_failing
 first = refl
+
+-- the soft values of the two bits of one symbol with the counts 0 3 1 0
+inner_soft : map (inner_soft_value P4 (0 ∷ 3 ∷ 1 ∷ 0 ∷ []) (pos 0 ∷ pos 0 ∷ [])) (0 ∷ 1 ∷ []) ≡ negsuc 1 ∷ pos 3 ∷ []
+unfolding tabulate top_from inner_top inner_soft_value
+inner_soft = refl
+
+-- two information bits without puncturing, of which the outputs of the first step have the number 1
+ones_then_zeros : List ℤ
+ones_then_zeros = pos 1 ∷ pos 1 ∷ pos 1 ∷ replicate 9 (pos 0)
+
+information_soft : map (information_soft_value ((true ∷ true ∷ true ∷ []) ∷ []) ones_then_zeros 2) (0 ∷ 1 ∷ []) ≡ pos 3 ∷ pos 0 ∷ []
+unfolding joined ones_then_zeros top_from information_top information_soft_value
+information_soft = refl
+
+code_soft : map (code_soft_value ((true ∷ true ∷ true ∷ []) ∷ []) ones_then_zeros 2) (0 ∷ 1 ∷ 2 ∷ 3 ∷ 6 ∷ 11 ∷ []) ≡ pos 3 ∷ pos 3 ∷ pos 3 ∷ pos 0 ∷ pos 3 ∷ pos 0 ∷ []
+unfolding joined ones_then_zeros top_from code_top code_soft_value
+code_soft = refl
+
+clamps : map clamped (pos 16384 ∷ negsuc 20000 ∷ pos 5 ∷ []) ≡ pos 16383 ∷ negsuc 16382 ∷ pos 5 ∷ []
+clamps = refl
+
+-- frames of one octet after a marker of 31 zeros and a one: a bit, frame A5, a span of which a bit is unknown, frame 3C
+scanned : (scan (record basic { frame_octets = 1; frame_marker = 1 })
+    (1 ∷ bits_of 32 1 ++ bits_of 8 0xA5 ++ replicate 39 1 ++ 2 ∷ bits_of 32 1 ++ bits_of 8 0x3C) 4 scan_start).frames
+    ≡ (0xA5 ∷ []) ∷ (0x3C ∷ []) ∷ []
+unfolding bits_of tabulate octets_of scan scan_step
+scanned = refl

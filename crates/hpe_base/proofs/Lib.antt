@@ -9,4 +9,8 @@ pub mod Channels
 pub mod Periods
 pub mod EachPlace
 pub mod Validity
+pub mod UnitLemmas
+pub mod Greatest
+pub mod Trellis
+pub mod GreatestScores
 mod Examples

@@ -19,3 +19,15 @@ pub mod Validity
 pub mod MarkerSearch
 pub mod ReceivedWords
 pub mod Geometry
+pub mod Units
+pub mod Sizes
+pub mod Greatest
+pub mod Trellis
+pub mod PathScores
+pub mod GreatestScores
+pub mod SoftValues
+pub mod Rounds
+pub mod FrameScan
+pub mod Decoded
+pub mod ClearChannel
+pub mod Laws

@@ -9,7 +9,7 @@ use Rattle.hpe_base.specs.Frames.{frame_bits}
 use Rattle.hpe_base.proofs.BitLists.{length-bits_of, get_or-bits_of}
 use Rattle.hpe_base.proofs.Pieces.{piece_at}
 use Rattle.hpe_frame.specs.Feeding.{Feeding, HasFed, marked}
-use Rattle.hpe_frame.proofs.UnitLemmas.{unit_piece}
+use Rattle.hpe_base.proofs.UnitLemmas.{unit_piece}
 
 -- a bit of a number
 pub number_bit : (n w i : ℕ) → i < w → bit_and (n / 2 ^ (w - 1 - i)) 1 ≡ get_or (bits_of w n) i 0

@@ -2,7 +2,7 @@
 use Rattle.std.specs.Prelude.{ℕ, ◌≡◌, List, ◌++◌}
 use Rattle.hpe_base.specs.Bits.{bits_of, octet_bits}
 use Rattle.hpe_base.specs.Parameters.{Parameters}
-use Rattle.hpe_frame.specs.Units.{unit_of}
+use Rattle.hpe_base.specs.Units.{unit_of}
 
 -- a feed of frames: the octets of the frame that is begun or was just completed
 pub record Feeding : Type 0 where

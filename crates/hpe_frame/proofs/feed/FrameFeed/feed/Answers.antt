@@ -1,7 +1,7 @@
 use Rattle.std.proofs.Common.{◌≡◌, ◌∙◌, ap, sym, arith, length, ◌+◌, ◌%◌}
 use Rattle.std.proofs.lemmas.Bool.{eq-eqb, eqb-true}
 use Rattle.hpe_frame.specs.Feeding.{Feeding}
-use Rattle.hpe_frame.proofs.UnitLemmas.{IsPlace, unit_step, unit_completes}
+use Rattle.hpe_base.proofs.UnitLemmas.{IsPlace, unit_step, unit_completes}
 use Rattle.hpe_frame.proofs.feed.FrameFeed.feed.Goals as goal
 use Rattle.hpe_frame.proofs.feed.FrameFeed.feed.Goals.{then-self-size, else-self-size}
 

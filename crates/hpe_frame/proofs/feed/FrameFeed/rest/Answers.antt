@@ -1,8 +1,8 @@
 use Rattle.std.proofs.Common.{◌≡◌, ◌∙◌, ap, sym, arith, ℕ, List, length, ◌%◌}
 use Rattle.std.proofs.lemmas.List.{length-take-le}
-use Rattle.hpe_frame.specs.Units.{unit_of}
+use Rattle.hpe_base.specs.Units.{unit_of}
 use Rattle.hpe_frame.specs.Feeding.{Feeding}
-use Rattle.hpe_frame.proofs.UnitLemmas.{unit_rest}
+use Rattle.hpe_base.proofs.UnitLemmas.{unit_rest}
 use Rattle.hpe_frame.proofs.feed.FrameFeed.rest.Goals as goal
 
 pub returns-else-self-len : goal.returns-else-self-len

@@ -4,7 +4,7 @@ use Rattle.std.specs.Prelude.{slice_range}
 use Rattle.std.proofs.lemmas.Nat.{div-add-mod', mod_below, div-mul-add, mod-mul-add}
 use Rattle.std.proofs.lemmas.Bool.{cases_lt, cases_eq}
 use Rattle.std.proofs.lemmas.List.{length_push, drop-append-le, drop_at, length-drop, nil_from_length, take_more_set, length-take-le, length-set, take_all}
-use Rattle.hpe_frame.specs.Units.{unit_of}
+use Rattle.hpe_base.specs.Units.{unit_of}
 
 -- the list has q whole units and r values more, at least one and at most n
 record IsCut (n q r : ℕ) (xs : List ℕ) : Type 0 where
