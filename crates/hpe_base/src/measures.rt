@@ -1,6 +1,7 @@
 //! The measures of a link, which follow from its profile.
 ghost use Rattle.std.specs.Prelude.{◌≡◌};
 ghost use Rattle.hpe_base.specs.Geometry.{measures_of};
+ghost use Rattle.hpe_base.specs.Parameters.{IsValid};
 
 use crate::profile::Profile;
 
@@ -27,7 +28,8 @@ pub struct Measures {
 
 /// The measures of the profile's link. It takes no memory.
 pub fn geometry(p: &Profile) -> Measures
-    ensures { result ≡ measures_of p.now }
+    ensures value { result ≡ measures_of p.now }
+    ensures valid { IsValid p.now }
 {
     let values = p.values();
     let symbols = p.order().symbols();

@@ -23,5 +23,5 @@ returns-clause-text c =
       c.slots.ensures,
       c.order.ensures.value,
       c.marker.ensures.value,
-      c.geometry-measures.ensures,
+      c.geometry-measures.ensures.value,
     ) refl
