@@ -3,3 +3,4 @@ pub mod Sequence
 pub mod Mixing
 pub mod Division
 pub mod Closed
+pub mod Units

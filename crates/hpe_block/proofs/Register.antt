@@ -1,5 +1,5 @@
 -- A number as a shift register: its bits reversed, its set bits counted, and a bit that comes in at the top.
-use Rattle.std.proofs.Common.{◌≡◌, ◌+◌, ◌-◌, ◌*◌, ◌/◌, ◌%◌, ◌^◌, ◌<◌, ℕ, [], ◌∷◌, refl, sym, ◌∙◌, ap, arith, sum, zero, suc, bit_and, bit_or, min, count_ones, inl, inr}
+use Rattle.std.proofs.Common.{◌≡◌, ◌+◌, ◌-◌, ◌*◌, ◌/◌, ◌%◌, ◌^◌, ◌<◌, ℕ, refl, sym, ◌∙◌, ap, arith, sum, zero, suc, bit_and, bit_or, min, count_ones, inl, inr}
 use Rattle.std.specs.Int.{bit_at, reverse_bits_onto}
 use Rattle.std.specs.Int.Count.{ones, ones_in}
 use Rattle.std.proofs.Math.Nat.{mod-eq_of_lt}

@@ -2,8 +2,9 @@ ghost use Rattle.std.specs.Prelude.{◌≡◌, length};
 ghost use Rattle.hpe_base.specs.Bits.{AreBits};
 
 use crate::block::put_number;
-use crate::{check_of, close_block, randomise};
+use crate::{Slicer, check_of, close_block, randomise};
 use hpe_base::Profile;
+use std::test::Fail;
 
 /// The pseudo-random sequence of the built-in profile begins with these five octets.
 const SEQUENCE: [u8; 40] = [
@@ -58,4 +59,46 @@ fn closes_a_block(rt: HostRuntime) {
     close_block(&Profile::basic(), &block, &mut closed);
     assert!(rt; closed.starts_with(&SEQUENCE));
     assert!(rt; closed.ends_with(&[0, 0]));
+}
+
+/// Pushes so many bits that are 0, and counts the blocks that they complete.
+fn push_zeros(slicer: &mut Slicer, count: u32) -> u32
+    ensures { slicer.new.parameters ≡ slicer.old.parameters }
+{
+    let mut blocks = 0;
+    for _ in 0..count {
+        if slicer.push(0) {
+            blocks += 1;
+        }
+    }
+    blocks
+}
+
+#[test]
+fn ends_of_blocks(rt: HostRuntime) -> Result<(), Fail> {
+    let mut slicer = Slicer::new(rt.alloc(), &Profile::basic())?;
+    for (bits, blocks) in [(5_005, 0), (1, 1), (5_005, 0), (1, 1), (1, 0)] {
+        assert_eq!(rt; push_zeros(&mut slicer, bits), blocks);
+    }
+    Ok(())
+}
+
+#[test]
+fn fills_a_block(rt: HostRuntime) -> Result<(), Fail> {
+    let mut slicer = Slicer::new(rt.alloc(), &Profile::basic())?;
+    let begun = slicer.pad();
+    assert!(rt; !begun);
+    push_zeros(&mut slicer, 5_005);
+    let whole = slicer.push(1);
+    assert!(rt; whole);
+    assert!(rt; slicer.block().starts_with(&zero_bits::<5_005>()));
+    assert!(rt; slicer.block().ends_with(&[1]));
+    let begun = slicer.pad();
+    assert!(rt; !begun);
+    slicer.push(1);
+    let begun = slicer.pad();
+    assert!(rt; begun);
+    assert!(rt; slicer.block().starts_with(&[1]));
+    assert!(rt; slicer.block().ends_with(&zero_bits::<5_005>()));
+    Ok(())
 }
