@@ -1,13 +1,15 @@
--- The steps of the long division, over a register of 32 bits.
-use Rattle.std.proofs.Common.{◌≡◌, ◌++◌, ◌+◌, ◌-◌, ◌*◌, ◌/◌, ◌%◌, ◌^◌, ◌<◌, ℕ, List, [], ◌∷◌, refl, length, get_or, drop, sym, ◌∙◌, ap, arith, suc, map, length-append, subst, bit_xor}
-use Rattle.std.proofs.lemmas.Nat.{xor_comm}
+-- The long division, bit by bit over a register of 32 bits.
+use Rattle.std.proofs.Common.{◌≡◌, ◌++◌, ◌+◌, ◌-◌, ◌*◌, ◌/◌, ◌%◌, ◌^◌, ◌<◌, ℕ, List, [], ◌∷◌, refl, length, get_or, take, sym, ◌∙◌, ap, arith, zero, suc, map, subst, bit_xor, inl, inr}
+use Rattle.std.proofs.lemmas.Bool.{cases_eq}
+use Rattle.std.proofs.lemmas.Nat.{xor_comm, xor_lt}
 use Rattle.std.specs.Int.{bit_at}
-use Rattle.std.proofs.Math.Seq.{drop-cons, drop-append_seam}
+use Rattle.std.specs.Int.Bits.{xor_self, xor_zero_r}
 use Rattle.std.proofs.Math.Nat.{mod-eq_of_lt}
-use Rattle.std.proofs.lemmas.List.{get_or_append_left, length-map}
+use Rattle.std.proofs.lemmas.List.{length-map, take_more}
 use Rattle.hpe_base.specs.Bits.{bits_of, number_of, xor, zeros, AreBits}
 use Rattle.hpe_base.specs.Check.{divide, add_front, check_bits}
-use Rattle.hpe_base.proofs.BitLists.{bits_of-xor, bits_of-mod, bits_of-double, add_front-twice, length-bits_of, are_bits-bits_of, add_front-zeros, number_of-bits_of}
+use Rattle.hpe_base.proofs.BitLists.{bits_of-xor, bits_of-mod, bits_of-double, add_front-twice, length-bits_of, are_bits-bits_of, are_bits-tail, add_front-zeros, number_of-bits_of}
+use Rattle.hpe_block.specs.Division.{divided, divided_by}
 
 -- a register that is shifted up by one
 bits_of-shifted : (r : ℕ) → bits_of 32 (r * 2 % 2 ^ 32) ≡ bits_of 31 r ++ 0 ∷ []
@@ -41,70 +43,93 @@ divide-more m top b generator low rest h =
     let long : length scaled ≡ suc (length low) = length-map generator (λ g. xor top b * g) ∙ h in
     ap (divide m generator) (add_front-twice scaled low rest long)
 
--- to go on from this register at place n gives the check
-abbrev pub GoesOn : ℕ → ℕ → List ℕ → ℕ → Type 0
-GoesOn check register bits n =
-    divide (length bits - n) (bits_of 32 check) (add_front (bits_of 32 register) (drop n (bits ++ zeros 32))) ≡ check_bits check bits
+-- a step adds nothing where the register's first bit is the bit
+pub divided_same : (check r b : ℕ) → r / 2 ^ 31 ≡ b → divided check r b ≡ r * 2 % 2 ^ 32
+divided_same check r b e =
+    let none : bit_xor b b * check ≡ 0 = ap (λ x. x * check) (xor_self b) ∙ omega arith in
+    ap (λ x. bit_xor (r * 2 % 2 ^ 32) (bit_xor x b * check)) e ∙ (ap (bit_xor (r * 2 % 2 ^ 32)) none ∙ xor_zero_r (r * 2 % 2 ^ 32))
 
--- it holds of the register of ones at the start
-pub GoesOn-none : (check : ℕ) (bits : List ℕ) → GoesOn check (2 ^ 32 - 1) bits 0
-unfolding check_bits bits_of
-GoesOn-none check bits = let e : length bits - 0 ≡ length bits = omega arith in rw e refl
+-- two bits that differ add to 1
+xor_apart : (a b : ℕ) → a < 2 → b < 2 → (a ≡ b → ⊥) → bit_xor a b ≡ 1
+xor_apart zero zero h k e = absurd (e refl)
+xor_apart zero (suc zero) h k e = refl
+xor_apart (suc zero) zero h k e = refl
+xor_apart (suc zero) (suc zero) h k e = absurd (e refl)
+xor_apart (suc (suc a)) b h k e = absurd (omega arith)
+xor_apart zero (suc (suc b)) h k e = absurd (omega arith)
+xor_apart (suc zero) (suc (suc b)) h k e = absurd (omega arith)
 
--- it holds after a step of the division
-pub GoesOn-more : (check r s : ℕ) (bits : List ℕ) (n : ℕ) → n < length bits →
-    bits_of 32 s ≡ add_front (map (λ g. xor (bit_at r 31) (get_or bits n 0) * g) (bits_of 32 check)) (bits_of 31 r ++ 0 ∷ []) →
-    GoesOn check r bits n → GoesOn check s bits (n + 1)
-GoesOn-more check r s bits n h e g =
-    let all : List ℕ = bits ++ zeros 32 in
-    let generator : List ℕ = bits_of 32 check in
-    let m : ℕ = length bits - (n + 1) in
-    let within : n < length all = omega (arith, length-append bits (zeros 32)) in
-    let here : get_or all n 0 ≡ get_or bits n 0 = get_or_append_left bits (zeros 32) 0 n h in
-    let next : suc n ≡ n + 1 = omega arith in
-    let cut : drop n all ≡ get_or bits n 0 ∷ drop (n + 1) all =
-    drop-cons all n 0 within ∙ (ap (λ v. v ∷ drop (suc n) all) here ∙ ap (λ k. get_or bits n 0 ∷ drop k all) next) in
-    let left : length bits - n ≡ suc m = omega arith in
-    let opened : divide (length bits - n) generator (add_front (bits_of 32 r) (drop n all)) ≡ divide (suc m) generator (add_front (bit_at r 31 ∷ bits_of 31 r) (get_or bits n 0 ∷ drop (n + 1) all)) =
-    ap (λ k. divide k generator (add_front (bits_of 32 r) (drop n all))) left
-    ∙ (ap (λ w. divide (suc m) generator (add_front w (drop n all))) (bits_of-split r)
-    ∙ ap (λ w. divide (suc m) generator (add_front (bit_at r 31 ∷ bits_of 31 r) w)) cut) in
-    let long : length generator ≡ suc (length (bits_of 31 r)) = length-bits_of 32 check ∙ ap suc (sym (length-bits_of 31 r)) in
-    ap (λ w. divide m generator (add_front w (drop (n + 1) all))) e
-    ∙ (sym (divide-more m (bit_at r 31) (get_or bits n 0) generator (bits_of 31 r) (drop (n + 1) all) long)
-    ∙ (sym opened ∙ g))
-
--- at the end the register is the check
-pub GoesOn-bits : (check r : ℕ) (bits : List ℕ) (n : ℕ) → n ≡ length bits → GoesOn check r bits n → bits_of 32 r ≡ check_bits check bits
-GoesOn-bits check r bits n e g =
-    let none : length bits - n ≡ 0 = omega arith in
-    let rest : drop n (bits ++ zeros 32) ≡ zeros 32 = ap (λ k. drop k (bits ++ zeros 32)) e ∙ drop-append_seam bits (zeros 32) in
-    let done : divide (length bits - n) (bits_of 32 check) (add_front (bits_of 32 r) (drop n (bits ++ zeros 32))) ≡ bits_of 32 r =
-    ap (λ k. divide k (bits_of 32 check) (add_front (bits_of 32 r) (drop n (bits ++ zeros 32)))) none
-    ∙ (ap (λ w. add_front (bits_of 32 r) w) rest ∙ add_front-zeros 32 r) in
-    sym done ∙ g
-
--- at the end the register is the number of the check
-pub GoesOn-all : (check r : ℕ) (bits : List ℕ) (n : ℕ) → r < 2 ^ 32 → n ≡ length bits → GoesOn check r bits n → r ≡ number_of (check_bits check bits)
-GoesOn-all check r bits n h e g =
-    let small : r % 2 ^ 32 ≡ r = mod-eq_of_lt h in
-    sym small ∙ (sym (number_of-bits_of 32 r) ∙ ap number_of (GoesOn-bits check r bits n e g))
-
--- the step where the register's first bit and the bit add to 0
-pub divided_same : (check r b : ℕ) → r < 2 ^ 32 → b < 2 → r / 2 ^ 31 ≡ b →
-    bits_of 32 (r * 2 % 2 ^ 32) ≡ add_front (map (λ g. xor (bit_at r 31) b * g) (bits_of 32 check)) (bits_of 31 r ++ 0 ∷ [])
-divided_same check r b h k e =
-    let zero_is : xor (bit_at r 31) b ≡ 0 = omega arith in
-    let bits : AreBits (bits_of 31 r ++ 0 ∷ []) = subst AreBits (bits_of-double 31 r) (are_bits-bits_of 32 (r * 2)) in
-    bits_of-shifted r ∙ (sym (add_by_zero (bits_of 32 check) (bits_of 31 r ++ 0 ∷ []) bits)
-    ∙ ap (λ x. add_front (map (λ g. x * g) (bits_of 32 check)) (bits_of 31 r ++ 0 ∷ [])) (sym zero_is))
-
--- the step where they add to 1
-pub divided_other : (check r b : ℕ) → r < 2 ^ 32 → b < 2 → (r / 2 ^ 31 ≡ b → ⊥) →
-    bits_of 32 (bit_xor (r * 2 % 2 ^ 32) check) ≡ add_front (map (λ g. xor (bit_at r 31) b * g) (bits_of 32 check)) (bits_of 31 r ++ 0 ∷ [])
+-- and the generator where it isn't
+pub divided_other : (check r b : ℕ) → r < 2 ^ 32 → b < 2 → (r / 2 ^ 31 ≡ b → ⊥) → divided check r b ≡ bit_xor (r * 2 % 2 ^ 32) check
 divided_other check r b h k e =
-    let one_is : xor (bit_at r 31) b ≡ 1 = omega arith in
-    ap (bits_of 32) (xor_comm (r * 2 % 2 ^ 32) check) ∙ (bits_of-xor 32 check (r * 2 % 2 ^ 32)
-    ∙ (ap (add_front (bits_of 32 check)) (bits_of-shifted r)
-    ∙ (ap (λ w. add_front w (bits_of 31 r ++ 0 ∷ [])) (sym (by_one (bits_of 32 check)))
-    ∙ ap (λ x. add_front (map (λ g. x * g) (bits_of 32 check)) (bits_of 31 r ++ 0 ∷ [])) (sym one_is))))
+    let one : bit_xor (r / 2 ^ 31) b * check ≡ check = ap (λ x. x * check) (xor_apart (r / 2 ^ 31) b (omega arith) k e) ∙ omega arith in
+    ap (bit_xor (r * 2 % 2 ^ 32)) one
+
+-- a step gives a register
+pub divided-lt : (check r b : ℕ) → check < 2 ^ 32 → r < 2 ^ 32 → b < 2 → divided check r b < 2 ^ 32
+divided-lt check r b c h k = elim (cases_eq (r / 2 ^ 31) b) [
+  | inl e ↦ rw (divided_same check r b e) (omega arith)
+  | inr e ↦ rw (divided_other check r b h k e) (xor_lt 32 (r * 2 % 2 ^ 32) check (omega arith) c)
+]
+
+-- the bits of the register after a step
+divided_bits : (check r b : ℕ) → r < 2 ^ 32 → b < 2 →
+    bits_of 32 (divided check r b) ≡ add_front (map (λ g. xor (bit_at r 31) b * g) (bits_of 32 check)) (bits_of 31 r ++ 0 ∷ [])
+divided_bits check r b h k = elim (cases_eq (r / 2 ^ 31) b) [
+  | inl e ↦
+      let zero_is : xor (bit_at r 31) b ≡ 0 = omega arith in
+      let bits : AreBits (bits_of 31 r ++ 0 ∷ []) = subst AreBits (bits_of-double 31 r) (are_bits-bits_of 32 (r * 2)) in
+      ap (bits_of 32) (divided_same check r b e) ∙ (bits_of-shifted r ∙ (sym (add_by_zero (bits_of 32 check) (bits_of 31 r ++ 0 ∷ []) bits)
+      ∙ ap (λ x. add_front (map (λ g. x * g) (bits_of 32 check)) (bits_of 31 r ++ 0 ∷ [])) (sym zero_is)))
+  | inr e ↦
+      let one_is : xor (bit_at r 31) b ≡ 1 = omega arith in
+      ap (bits_of 32) (divided_other check r b h k e ∙ xor_comm (r * 2 % 2 ^ 32) check) ∙ (bits_of-xor 32 check (r * 2 % 2 ^ 32)
+      ∙ (ap (add_front (bits_of 32 check)) (bits_of-shifted r)
+      ∙ (ap (λ w. add_front w (bits_of 31 r ++ 0 ∷ [])) (sym (by_one (bits_of 32 check)))
+      ∙ ap (λ x. add_front (map (λ g. x * g) (bits_of 32 check)) (bits_of 31 r ++ 0 ∷ [])) (sym one_is))))
+]
+
+-- the register after all bits is what the division of the list leaves
+divided_by_bits : (check r : ℕ) (bits : List ℕ) → check < 2 ^ 32 → r < 2 ^ 32 → AreBits bits →
+    divide (length bits) (bits_of 32 check) (add_front (bits_of 32 r) (bits ++ zeros 32)) ≡ bits_of 32 (divided_by check r bits)
+unfolding divided_by
+divided_by_bits check r [] c h bits = add_front-zeros 32 r
+divided_by_bits check r (b ∷ rest) c h bits =
+    let generator : List ℕ = bits_of 32 check in
+    let first : b < 2 = bits 0 0 (omega arith) in
+    let long : length generator ≡ suc (length (bits_of 31 r)) = length-bits_of 32 check ∙ ap suc (sym (length-bits_of 31 r)) in
+    ap (λ w. divide (suc (length rest)) generator (add_front w (b ∷ (rest ++ zeros 32)))) (bits_of-split r)
+    ∙ (divide-more (length rest) (bit_at r 31) b generator (bits_of 31 r) (rest ++ zeros 32) long
+    ∙ (ap (λ w. divide (length rest) generator (add_front w (rest ++ zeros 32))) (sym (divided_bits check r b h first))
+    ∙ divided_by_bits check (divided check r b) rest c (divided-lt check r b c h first) (are_bits-tail b rest bits)))
+
+-- from a register of ones that is the check
+pub divided_by_check : (check : ℕ) (bits : List ℕ) → check < 2 ^ 32 → AreBits bits → bits_of 32 (divided_by check (2 ^ 32 - 1) bits) ≡ check_bits check bits
+unfolding check_bits bits_of
+divided_by_check check bits c h = sym (divided_by_bits check (2 ^ 32 - 1) bits c (omega arith) h)
+
+-- and its number
+pub divided_by_number : (check r : ℕ) (bits : List ℕ) → r < 2 ^ 32 → bits_of 32 r ≡ check_bits check bits → r ≡ number_of (check_bits check bits)
+divided_by_number check r bits h e =
+    let small : r % 2 ^ 32 ≡ r = mod-eq_of_lt h in
+    sym small ∙ (sym (number_of-bits_of 32 r) ∙ ap number_of e)
+
+-- some bits and then others
+pub divided_by-append : (check r : ℕ) (xs ys : List ℕ) → divided_by check r (xs ++ ys) ≡ divided_by check (divided_by check r xs) ys
+unfolding divided_by
+divided_by-append check r [] ys = refl
+divided_by-append check r (x ∷ xs) ys = divided_by-append check (divided check r x) xs ys
+
+-- a bit more behind
+pub divided_by-push : (check r : ℕ) (xs : List ℕ) (b : ℕ) → divided_by check r (xs ++ b ∷ []) ≡ divided check (divided_by check r xs) b
+unfolding divided_by
+divided_by-push check r xs b = divided_by-append check r xs (b ∷ [])
+
+-- no bits
+pub divided_by-none : (check r : ℕ) (bits : List ℕ) → divided_by check r (take 0 bits) ≡ r
+unfolding divided_by
+divided_by-none check r bits = refl
+
+-- the next bit of a list
+pub divided_by-more : (check r : ℕ) (bits : List ℕ) (n : ℕ) → n < length bits → divided_by check r (take (n + 1) bits) ≡ divided check (divided_by check r (take n bits)) (get_or bits n 0)
+divided_by-more check r bits n h = ap (divided_by check r) (take_more bits n 0 h) ∙ divided_by-push check r (take n bits) (get_or bits n 0)

@@ -1,4 +1,4 @@
-ghost use Rattle.std.specs.Prelude.{◌≡◌, length};
+ghost use Rattle.std.specs.Prelude.{◌≡◌, ◌<◌, length};
 ghost use Rattle.hpe_base.specs.Bits.{AreBits};
 
 use crate::block::put_number;
@@ -15,11 +15,13 @@ const SEQUENCE: [u8; 40] = [
     1, 0, 0, 1, 1, 0, 1, 0, // 9A
 ];
 
-fn zero_bits<const N: usize>() -> [u8; N]
+/// So many bits that are all the same.
+fn same_bits<const N: usize>(bit: u8) -> [u8; N]
+    requires { bit < 2 }
     ensures length { length result ≡ N }
     ensures bits { AreBits result }
 {
-    [0; N]
+    [bit; N]
 }
 
 #[test]
@@ -28,15 +30,15 @@ fn checks_by_hand(rt: HostRuntime) {
     assert_eq!(rt; check_of(generator, &[]), 0xFFFF_FFFF);
     assert_eq!(rt; check_of(generator, &[1]), 0xFFFF_FFFE);
     assert_eq!(rt; check_of(generator, &[0]), 0xDFFB_BFF7);
-    let mut ones = [0; 32];
-    put_number(u32::MAX, &mut ones);
-    assert_eq!(rt; check_of(generator, &ones), 0);
+    assert_eq!(rt; check_of(generator, &same_bits::<8>(0)), 0x9C4B_38FB);
+    assert_eq!(rt; check_of(generator, &same_bits::<32>(1)), 0);
+    assert_eq!(rt; check_of(generator, &same_bits::<33>(1)), generator);
 }
 
 #[test]
 fn randomises_and_back(rt: HostRuntime) {
     let p = Profile::basic();
-    let mut zeros = zero_bits::<40>();
+    let mut zeros = same_bits::<40>(0);
     randomise(&p, &mut zeros);
     assert_eq!(rt; zeros, SEQUENCE);
     for (plain, mixed) in [(0, 0xFF48_0EC0), (0x1ACF_FC1D, 0xE587_F2DD)] {
@@ -54,8 +56,8 @@ fn randomises_and_back(rt: HostRuntime) {
 
 #[test]
 fn closes_a_block(rt: HostRuntime) {
-    let block = zero_bits::<5_006>();
-    let mut closed = zero_bits::<5_040>();
+    let block = same_bits::<5_006>(0);
+    let mut closed = same_bits::<5_040>(0);
     close_block(&Profile::basic(), &block, &mut closed);
     assert!(rt; closed.starts_with(&SEQUENCE));
     assert!(rt; closed.ends_with(&[0, 0]));
@@ -91,7 +93,7 @@ fn fills_a_block(rt: HostRuntime) -> Result<(), Fail> {
     push_zeros(&mut slicer, 5_005);
     let whole = slicer.push(1);
     assert!(rt; whole);
-    assert!(rt; slicer.block().starts_with(&zero_bits::<5_005>()));
+    assert!(rt; slicer.block().starts_with(&same_bits::<5_005>(0)));
     assert!(rt; slicer.block().ends_with(&[1]));
     let begun = slicer.pad();
     assert!(rt; !begun);
@@ -99,6 +101,6 @@ fn fills_a_block(rt: HostRuntime) -> Result<(), Fail> {
     let begun = slicer.pad();
     assert!(rt; begun);
     assert!(rt; slicer.block().starts_with(&[1]));
-    assert!(rt; slicer.block().ends_with(&zero_bits::<5_005>()));
+    assert!(rt; slicer.block().ends_with(&same_bits::<5_005>(0)));
     Ok(())
 }
