@@ -1,0 +1,4 @@
+pub mod Outgoing
+pub mod OutboxView
+pub mod Weave
+pub mod Streaming

@@ -1,0 +1,6 @@
+//! The streaming sender: from the octets of transfer frames to slots, with room for one frame, one block and one
+//! codeword.
+#![tactic(auto)]
+
+mod outbox;
+mod period;
