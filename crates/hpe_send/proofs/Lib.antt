@@ -5,3 +5,4 @@ pub mod WovenWord
 pub mod Slotted
 pub mod Worded
 pub mod Streamed
+pub mod Coded

@@ -2,3 +2,5 @@ pub mod Outgoing
 pub mod OutboxView
 pub mod Weave
 pub mod Streaming
+pub mod Coding
+pub mod CoderView

@@ -2,5 +2,7 @@
 //! codeword.
 #![tactic(auto)]
 
+mod coder;
 mod outbox;
 mod period;
+mod room;

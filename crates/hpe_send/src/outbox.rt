@@ -6,8 +6,9 @@ ghost use Rattle.hpe_base.specs.Slots.{pulses_of};
 ghost use Rattle.hpe_io.specs.Devices.{Puts, GrowsByFront, HasCause};
 ghost use Rattle.hpe_send.specs.Outgoing.{IsPending};
 
-use hpe_base::Profile;
-use hpe_io::{Failed, NoMemory, Sink};
+use crate::room::blank_room;
+use hpe_base::{NoMemory, Profile};
+use hpe_io::{Failed, Sink};
 use hpe_slots::{symbol_slots, write_pulses};
 use std::alloc::Global;
 use std::marker::Model;
@@ -34,22 +35,12 @@ impl Model for Outbox {
     ghost invariant = { IsOutbox };
 }
 
-/// Room for the slots that are held.
-fn blank_room(alloc: Global) -> Result<Vec<u8>, NoMemory>
-    ensures { IfOk result (λ v. length v.items ≡ ROOM) }
-{
-    match vec![in alloc; 0; ROOM] {
-        Ok(room) => Ok(room),
-        Err(_) => Err(NoMemory),
-    }
-}
-
 impl Outbox {
     /// An outbox that holds nothing. It takes all its memory.
     pub fn new(alloc: Global) -> Result<Outbox, NoMemory>
         ensures { IfOk result (λ o. o ≡ []) }
     {
-        let octets = blank_room(alloc)?;
+        let octets = blank_room(alloc, ROOM)?;
         Ok(Outbox { octets, used: 0 })
     }
 

@@ -1,0 +1,16 @@
+// Room for octets.
+
+ghost use Rattle.std.specs.Prelude.{◌≡◌, length, IfOk};
+
+use hpe_base::NoMemory;
+use std::alloc::Global;
+
+/// Room for so many octets, all 0.
+pub fn blank_room(alloc: Global, size: usize) -> Result<Vec<u8>, NoMemory>
+    ensures { IfOk result (λ v. length v.items ≡ size) }
+{
+    match vec![in alloc; 0; size] {
+        Ok(room) => Ok(room),
+        Err(_) => Err(NoMemory),
+    }
+}
