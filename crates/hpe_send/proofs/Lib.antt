@@ -6,3 +6,4 @@ pub mod Slotted
 pub mod Worded
 pub mod Streamed
 pub mod Coded
+pub mod Stepped

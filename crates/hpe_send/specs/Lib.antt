@@ -4,3 +4,5 @@ pub mod Weave
 pub mod Streaming
 pub mod Coding
 pub mod CoderView
+pub mod Chaining
+pub mod ChainView

@@ -2,6 +2,7 @@
 //! codeword.
 #![tactic(auto)]
 
+mod chain;
 mod coder;
 mod outbox;
 mod period;
