@@ -7,3 +7,5 @@ pub mod Worded
 pub mod Streamed
 pub mod Coded
 pub mod Stepped
+pub mod Chained
+pub mod Taken

@@ -5,14 +5,15 @@ use Rattle.std.specs.declared.option.Option.{Option}
 use Rattle.std.proofs.lemmas.Nat.{div-add-mod', mod_below, div-mul-add, mod-mul-add}
 use Rattle.std.proofs.lemmas.Bool.{cases_eq}
 use Rattle.std.proofs.lemmas.List.{length_push, take_more, take-append-drop}
-use Rattle.hpe_base.specs.Bits.{zeros}
+use Rattle.hpe_base.specs.Bits.{zeros, bits_of, octet_bits}
 use Rattle.hpe_base.specs.Lists.{joined}
 use Rattle.hpe_base.specs.Parameters.{Parameters, block_bits}
 use Rattle.hpe_base.specs.Frames.{bit_stream, frame_bits}
 use Rattle.hpe_base.specs.Slicer.{block_from}
 use Rattle.hpe_base.specs.Codeword.{codeword, word_symbols}
 use Rattle.hpe_base.proofs.Tabulated.{joined-more}
-use Rattle.hpe_base.proofs.BitLists.{length-zeros}
+use Rattle.hpe_base.proofs.BitLists.{length-zeros, length-bits_of, length-octet_bits}
+use Rattle.hpe_frame.specs.Feeding.{Feeding, marked}
 use Rattle.hpe_io.specs.Devices.{GrowsByFront}
 use Rattle.hpe_send.specs.Streaming.{word_count, words_of, bit_slots}
 use Rattle.hpe_send.proofs.Fronts.{IsFront, grows-front}
@@ -149,3 +150,14 @@ module _ (p : Parameters) (octets : List ℕ) (x : ℕ) (some : 0 < p.frame_octe
       sym (ap (λ (n : ℕ). joined n (frame_bits p (octets ++ x ∷ []))) count ∙ (joined-more f (frame_bits p (octets ++ x ∷ []))
       ∙ (ap (λ (l : List ℕ). l ++ frame_bits p (octets ++ x ∷ []) f) (frames-front p octets (x ∷ []) f (fits (length octets) p.frame_octets))
       ∙ ap (λ (n : ℕ). joined f (frame_bits p octets) ++ frame_bits p (octets ++ x ∷ []) n) (sym last))))
+
+-- the bits of a frame with its marker
+pub length-marked : (f : Feeding) → length f.held ≡ f.parameters.frame_octets → length (marked f) ≡ 32 + 8 * f.parameters.frame_octets
+length-marked f whole =
+    omega (arith, length-append (bits_of 32 f.parameters.frame_marker) (octet_bits f.held), length-bits_of 32 f.parameters.frame_marker, length-octet_bits f.held)
+
+pub frame_end : (f f' : Feeding) (p q : Parameters) (n : ℕ) → f ≡ f' → f.parameters ≡ p → q ≡ p → n ≡ 32 + 8 * q.frame_octets
+    → length f'.held ≡ f'.parameters.frame_octets → n ≡ length (marked f')
+frame_end f f' p q n same of_f of_q e whole =
+    let here : f'.parameters.frame_octets ≡ q.frame_octets = ap (λ (x : Parameters). x.frame_octets) (ap (λ (x : Feeding). x.parameters) (sym same) ∙ (of_f ∙ sym of_q)) in
+    omega (arith, length-marked f' whole)

@@ -6,3 +6,5 @@ pub mod Coding
 pub mod CoderView
 pub mod Chaining
 pub mod ChainView
+pub mod SenderView
+pub mod Sending

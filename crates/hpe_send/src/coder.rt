@@ -134,6 +134,7 @@ impl Coder {
 
     /// Puts the slots that wait for the output.
     pub fn put_held<O: Sink>(&mut self, output: &mut O) -> Result<(), Failed>
+        ensures profile { self.new.parameters ≡ self.old.parameters }
         ensures bytes { Puts (O.written output.old) (O.written output.new) result self.old.held }
         ensures cause { HasCause (O.faults output.old) (O.faults output.new) result }
         ensures mark { O.mark output.new ≡ O.mark output.old }

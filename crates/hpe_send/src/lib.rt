@@ -1,9 +1,13 @@
-//! The streaming sender: from the octets of transfer frames to slots, with room for one frame, one block and one
-//! codeword.
+//! The streaming sender: from the octets of transfer frames to slots, with room for one frame, one block, one codeword
+//! and what the channel interleaver delays.
 #![tactic(auto)]
 
 mod chain;
 mod coder;
+mod drive;
 mod outbox;
 mod period;
 mod room;
+mod sender;
+
+pub use sender::{SendFault, Sender, Sent};
