@@ -10,7 +10,7 @@ use Rattle.hpe_io.proofs.Known.{append_twice, append_nothing}
 use Rattle.hpe_send.specs.Outgoing.{IsPending}
 use Rattle.hpe_send.proofs.Fronts.{IsFront, front_from}
 
-take_past : (xs ys : List ℕ) (k : ℕ) → take (length xs + k) (xs ++ ys) ≡ xs ++ take k ys
+pub take_past : (xs ys : List ℕ) (k : ℕ) → take (length xs + k) (xs ++ ys) ≡ xs ++ take k ys
 take_past [] ys k = let e : 0 + k ≡ k = omega arith in ap (λ (n : ℕ). take n ys) e
 take_past (x ∷ xs) ys k =
     let e : suc (length xs) + k ≡ suc (length xs + k) = omega arith in rw e (ap (λ (l : List ℕ). x ∷ l) (take_past xs ys k))

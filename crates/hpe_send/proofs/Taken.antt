@@ -74,6 +74,17 @@ hands_end old (Some xs) n before after z h =
     let e : old ≡ Some xs = h.lost ∙ ap (λ (k : ℕ). Some (take k after ++ xs)) z in
     record { same = e; ended = (rw e at h.ends).0 z }
 
+-- what one take more makes of the octets that were taken
+pub lost_more : (left0 left left' : Option (List ℕ)) (octets : List ℕ) (n : ℕ) (before after : List ℕ) → left0 ≡ prepend_known octets left → Hands left left' n before after
+    → left0 ≡ prepend_known (octets ++ take n after) left'
+lost_more left0 left left' octets n before after lost hands = lost ∙ (ap (prepend_known octets) hands.lost ∙ prepend_twice octets (take n after) left')
+
+pub count_more : (left left' : Option (List ℕ)) (octets : List ℕ) (n taken : ℕ) (before after : List ℕ) → length octets ≡ taken → Hands left left' n before after
+    → length (octets ++ take n after) ≡ taken + n
+count_more left left' octets n taken before after count hands =
+    let fits : n ≤ length after = hands.fits in
+    omega (arith, length-append octets (take n after), length-take n after)
+
 module _ (c0 c c' : Chaining) (written0 written written' left0 left left' : Option (List ℕ)) (limit taken n whole : ℕ) (octets piece before after : List ℕ)
     (was : IsTaken c0 c written0 written left0 left limit taken octets) (hands : Hands left left' n before after) (within : taken ≤ limit) (w : whole ≡ min n (limit - taken))
     (is_piece : piece ≡ take whole after) where
@@ -83,20 +94,12 @@ module _ (c0 c c' : Chaining) (written0 written written' left0 left left' : Opti
       let count : length octets ≡ taken = was.count in
       take_cut octets after limit n whole (omega arith) fits (omega arith) ∙ ap (λ (l : List ℕ). take limit octets ++ l) (sym is_piece)
 
-  pub lost_more : left0 ≡ prepend_known (octets ++ take n after) left'
-  lost_more = was.lost ∙ (ap (prepend_known octets) hands.lost ∙ prepend_twice octets (take n after) left')
-
-  pub count_more : length (octets ++ take n after) ≡ taken + n
-  count_more =
-      let fits : n ≤ length after = hands.fits in
-      omega (arith, was.count, length-append octets (take n after), length-take n after)
-
   -- one piece more
   pub taken_more : ((fed : List ℕ) (start : Option (List ℕ)) → HasTaken c fed start written → HasTaken c' (fed ++ piece) start written')
       → IsTaken c0 c' written0 written' left0 left' limit (taken + n) (octets ++ take n after)
   taken_more step = record {
-    lost = lost_more;
-    count = count_more;
+    lost = lost_more left0 left left' octets n before after was.lost hands;
+    count = count_more left left' octets n taken before after was.count hands;
     stands = λ start s. rw cut_more (step (take limit octets) start (was.stands start s));
   }
 

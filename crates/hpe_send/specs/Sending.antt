@@ -1,5 +1,5 @@
 -- What a sender did to its input and its output, and how its results are told apart.
-use Rattle.std.specs.Prelude.{⊤, ⊥, ℕ, ◌≡◌, ◌≤◌, ◌+◌, ◌*◌, List, length, Result, Ok, Err}
+use Rattle.std.specs.Prelude.{⊤, ℕ, ◌≡◌, ◌≤◌, ◌+◌, ◌*◌, List, length, Result, Ok, Err}
 use Rattle.std.specs.Int.{div_ceil}
 use Rattle.std.specs.declared.option.Option.{Option}
 use Rattle.std.specs.Io.KnownBytes.{append_known}
