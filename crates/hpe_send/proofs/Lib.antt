@@ -9,3 +9,4 @@ pub mod Coded
 pub mod Stepped
 pub mod Chained
 pub mod Taken
+pub mod Ended
