@@ -5,4 +5,5 @@ pub mod Division
 pub mod Linear
 pub mod Octets
 pub mod Closed
+pub mod Opened
 pub mod Units

@@ -1,8 +1,10 @@
 ghost use Rattle.std.specs.Prelude.{◌≡◌, ◌<◌, length};
 ghost use Rattle.hpe_base.specs.Bits.{AreBits};
+ghost use Rattle.hpe_base.specs.Parameters.{code_steps};
+ghost use Rattle.hpe_base.specs.Rounds.{information_bits};
 
 use crate::block::put_number;
-use crate::{Slicer, check_of, close_block, randomise};
+use crate::{Slicer, check_of, close_block, open_block, randomise};
 use hpe_base::Profile;
 use std::test::Fail;
 
@@ -61,6 +63,41 @@ fn closes_a_block(rt: HostRuntime) {
     close_block(&Profile::basic(), &block, &mut closed);
     assert!(rt; closed.starts_with(&SEQUENCE));
     assert!(rt; closed.ends_with(&[0, 0]));
+}
+
+/// A closed block without its termination, which is what is decoded of it.
+fn word_of<'a>(p: &Profile, closed: &'a [u8]) -> &'a [u8]
+    requires bits { AreBits closed.now }
+    requires length { length closed.now ≡ code_steps p.now.rate }
+    ensures bits { AreBits result.now }
+    ensures length { length result.now ≡ information_bits p.now.rate }
+{
+    &closed[..p.rate().steps() - 2]
+}
+
+/// Flips one bit.
+fn flip(bits: &mut [u8], place: usize)
+    requires bits { AreBits bits.old }
+    requires place { place < length bits.old }
+    ensures bits { AreBits bits.new }
+{
+    bits[place] = if bits[place] == 0 { 1 } else { 0 };
+}
+
+#[test]
+fn opens_a_closed_block(rt: HostRuntime) {
+    let p = Profile::basic();
+    let block = same_bits::<5_006>(1);
+    let mut closed = same_bits::<5_040>(0);
+    close_block(&p, &block, &mut closed);
+    let mut opened = same_bits::<5_006>(0);
+    let right = open_block(&p, word_of(&p, &closed), &mut opened);
+    assert!(rt; right.is_some());
+    assert!(rt; opened == block);
+    flip(&mut closed, 5_005);
+    let right = open_block(&p, word_of(&p, &closed), &mut opened);
+    assert!(rt; right.is_none());
+    assert!(rt; opened == block);
 }
 
 /// Pushes so many bits that are 0, and counts the blocks that they complete.
