@@ -1,0 +1,155 @@
+-- Sums of the outer kernels fit, and mean what they say.
+use Rattle.std.proofs.Common.{◌≡◌, ℕ, zero, suc, ◌<◌, ◌≤◌, sym, ◌∙◌, ap, ap₂, subst, refl, arith, rules, ℤ, pos, ◌+ℤ◌, ◌-ℤ◌, ◌≤ℤ◌, List, [], ◌∷◌, w32, to_z, of_z, FitsSigned}
+use Rattle.std.specs.Int.{int_max}
+use Rattle.std.proofs.lemmas.Int.{ints, clamps}
+use Rattle.hpe_base.specs.Sizes.{number_at, Within, AllWithin}
+use Rattle.hpe_base.specs.Greatest.{IsSoft}
+use Rattle.hpe_base.specs.Trellis.{IsEdge}
+use Rattle.hpe_lane.specs.OuterStage.{outer_next, edge_sum, soft_bit}
+use Rattle.hpe_lane.proofs.OuterEdges.{outer-stays}
+use Rattle.hpe_lane.specs.OuterSums.{best_sum, chosen_after}
+use Rattle.hpe_lane.proofs.OuterEdges.{best_shifted, best_same, class_soft, pick, at_four, after_within, edge_sum_within}
+
+abbrev pub kept_z : ℤ → ℤ
+kept_z z = to_z w32 (of_z w32 z)
+
+pub fits : (z : ℤ) → Within 1300000000 z → FitsSigned w32 z
+fits z h = search (rules, ints)
+
+pub clean : (z : ℤ) → Within 1300000000 z → kept_z z ≡ z
+clean z h = omega (arith, ints)
+
+pub wider : (m n : ℕ) (z : ℤ) → m ≤ n → Within m z → Within n z
+wider m n z h k = (let a = k.0 in omega (arith, ints), let a = k.1 in omega (arith, ints))
+
+-- the three sums of a step's numbers
+pub two_is : (b c : ℤ) → Within 16383 b → Within 16383 c → kept_z (kept_z b +ℤ kept_z c) ≡ pos 0 +ℤ (b +ℤ (c +ℤ pos 0))
+two_is b c hb hc = omega (arith, ints)
+
+pub one_is : (a : ℤ) → Within 16383 a → kept_z a ≡ a +ℤ (pos 0 +ℤ (pos 0 +ℤ pos 0))
+one_is a ha = omega (arith, ints)
+
+pub all_is : (a b c : ℤ) → Within 16383 a → Within 16383 b → Within 16383 c → kept_z (kept_z a +ℤ kept_z (kept_z b +ℤ kept_z c)) ≡ a +ℤ (b +ℤ (c +ℤ pos 0))
+all_is a b c ha hb hc = omega (arith, ints)
+
+pub none_is : pos 0 ≡ pos 0 +ℤ (pos 0 +ℤ (pos 0 +ℤ pos 0))
+none_is = refl
+
+-- one edge and the number behind it
+pub sum_fits : (e k x y : ℤ) → k ≡ e → Within 49149 e → Within 600000000 x → y ≡ x → FitsSigned w32 (k +ℤ y)
+sum_fits e k x y s he hx t = let z : Within 1300000000 (e +ℤ x) = (omega (arith, ints), omega (arith, ints)) in subst (FitsSigned w32) (sym (ap₂ (λ (u v : ℤ). u +ℤ v) s t)) (fits (e +ℤ x) z)
+
+pub sum_is : (e k x y : ℤ) → k ≡ e → Within 49149 e → Within 600000000 x → y ≡ x → kept_z (k +ℤ y) ≡ e +ℤ x
+sum_is e k x y s he hx t = let z : Within 1300000000 (e +ℤ x) = (omega (arith, ints), omega (arith, ints)) in ap kept_z (ap₂ (λ (u v : ℤ). u +ℤ v) s t) ∙ clean (e +ℤ x) z
+
+pub alone_is : (x : ℤ) → Within 600000000 x → kept_z x ≡ (pos 0 +ℤ (pos 0 +ℤ (pos 0 +ℤ pos 0))) +ℤ x
+alone_is x h = omega (arith, ints)
+
+pub clean_row : (x : ℤ) → Within 600000000 x → kept_z x ≡ x
+clean_row x h = omega (arith, ints)
+
+pub clean_after : (x : ℤ) → Within 600049149 x → kept_z x ≡ x
+clean_after x h = omega (arith, ints)
+
+-- the greater of two sums
+pub greater_is : (a x b y r : ℤ) → Within 600000000 a → Within 600049149 x → Within 600000000 b → Within 600049149 y
+    → r ≡ int_max (kept_z (kept_z a +ℤ kept_z x)) (kept_z (kept_z b +ℤ kept_z y)) → kept_z r ≡ int_max (a +ℤ x) (b +ℤ y)
+greater_is a x b y r ha hx hb hy e =
+    let p : kept_z (kept_z a +ℤ kept_z x) ≡ a +ℤ x = omega (arith, ints) in
+    let q : kept_z (kept_z b +ℤ kept_z y) ≡ b +ℤ y = omega (arith, ints) in
+    let w : Within 1300000000 (int_max (a +ℤ x) (b +ℤ y)) = (omega (arith, ints, clamps), omega (arith, ints, clamps)) in
+    ap kept_z (e ∙ ap₂ int_max p q) ∙ clean (int_max (a +ℤ x) (b +ℤ y)) w
+
+sums_within : (a x b y : ℤ) → Within 600000000 a → Within 600049149 x → Within 600000000 b → Within 600049149 y → Within 1300000000 (int_max (a +ℤ x) (b +ℤ y))
+sums_within a x b y ha hx hb hy = (omega (arith, ints, clamps), omega (arith, ints, clamps))
+
+-- one value of the forward row
+pub forward_is : (a e b f a2 e2 b2 f2 r : ℤ) → Within 600000000 a → Within 49149 e → Within 600000000 b → Within 49149 f → a2 ≡ a → e2 ≡ e → b2 ≡ b → f2 ≡ f
+    → r ≡ int_max (a2 +ℤ e2) (b2 +ℤ f2) → kept_z r ≡ int_max (a +ℤ e) (b +ℤ f)
+forward_is a e b f a2 e2 b2 f2 r ha he hb hf ea ee eb ef h =
+    let s : r ≡ int_max (a +ℤ e) (b +ℤ f) = h ∙ ap₂ int_max (ap₂ (λ (u v : ℤ). u +ℤ v) ea ee) (ap₂ (λ (u v : ℤ). u +ℤ v) eb ef) in
+    ap kept_z s ∙ clean (int_max (a +ℤ e) (b +ℤ f)) (sums_within a e b f ha (wider 49149 600049149 e (omega arith) he) hb (wider 49149 600049149 f (omega arith) hf))
+
+-- the greatest of four sums
+max_within : (x y : ℤ) → Within 1300000000 x → Within 1300000000 y → Within 1300000000 (int_max x y)
+max_within x y h k = (omega (arith, ints, clamps), omega (arith, ints, clamps))
+
+pub best_within : (f g : ℕ → ℤ) → ((p : ℕ) → p < 4 → Within 600000000 (f p)) → ((p : ℕ) → p < 4 → Within 600049149 (g p)) → Within 1300000000 (best_sum f g)
+best_within f g hf hg =
+    max_within (int_max (f 0 +ℤ g 0) (f 1 +ℤ g 1)) (int_max (f 2 +ℤ g 2) (f 3 +ℤ g 3))
+    (sums_within (f 0) (g 0) (f 1) (g 1) (hf 0 (omega arith)) (hg 0 (omega arith)) (hf 1 (omega arith)) (hg 1 (omega arith)))
+    (sums_within (f 2) (g 2) (f 3) (g 3) (hf 2 (omega arith)) (hg 2 (omega arith)) (hf 3 (omega arith)) (hg 3 (omega arith)))
+
+pair_is : (a x b y a2 x2 b2 y2 r : ℤ) → Within 600000000 a → Within 600049149 x → Within 600000000 b → Within 600049149 y → r ≡ int_max (kept_z a +ℤ kept_z x) (kept_z b +ℤ kept_z y) → kept_z r ≡ int_max (a +ℤ x) (b +ℤ y)
+pair_is a x b y a2 x2 b2 y2 r ha hx hb hy h =
+    let s : r ≡ int_max (a +ℤ x) (b +ℤ y) = h ∙ ap₂ int_max (ap₂ (λ (u v : ℤ). u +ℤ v) (clean_row a ha) (clean_after x hx)) (ap₂ (λ (u v : ℤ). u +ℤ v) (clean_row b hb) (clean_after y hy)) in
+    ap kept_z s ∙ clean (int_max (a +ℤ x) (b +ℤ y)) (sums_within a x b y ha hx hb hy)
+
+pub best_is : (f g : List ℤ) (low high r : ℤ) → ((p : ℕ) → p < 4 → Within 600000000 (number_at f p)) → ((p : ℕ) → p < 4 → Within 600049149 (number_at g p))
+    → low ≡ int_max (kept_z (number_at f 0) +ℤ kept_z (number_at g 0)) (kept_z (number_at f 1) +ℤ kept_z (number_at g 1))
+    → high ≡ int_max (kept_z (number_at f 2) +ℤ kept_z (number_at g 2)) (kept_z (number_at f 3) +ℤ kept_z (number_at g 3))
+    → r ≡ int_max (kept_z low) (kept_z high) → kept_z r ≡ best_sum (number_at f) (number_at g)
+best_is f g low high r hf hg el eh e =
+    let a = pair_is (number_at f 0) (number_at g 0) (number_at f 1) (number_at g 1) (pos 0) (pos 0) (pos 0) (pos 0) low (hf 0 (omega arith)) (hg 0 (omega arith)) (hf 1 (omega arith)) (hg 1 (omega arith)) el in
+    let b = pair_is (number_at f 2) (number_at g 2) (number_at f 3) (number_at g 3) (pos 0) (pos 0) (pos 0) (pos 0) high (hf 2 (omega arith)) (hg 2 (omega arith)) (hf 3 (omega arith)) (hg 3 (omega arith)) eh in
+    ap kept_z (e ∙ ap₂ int_max a b) ∙ clean (best_sum (number_at f) (number_at g)) (best_within (number_at f) (number_at g) hf hg)
+
+gap_within : (x y : ℤ) → x ≤ℤ (y +ℤ pos 1200098298) → y ≤ℤ (x +ℤ pos 1200098298) → Within 1300000000 (x -ℤ y)
+gap_within x y h k = (omega (arith, ints), omega (arith, ints))
+
+module _ (f g h : ℕ → ℤ) (hf : (p : ℕ) → p < 4 → Within 600000000 (f p)) (hg : (p : ℕ) → p < 4 → Within 600049149 (g p)) (hh : (p : ℕ) → p < 4 → Within 600049149 (h p))
+    (r s : ℤ) (er : r ≡ best_sum f g) (es : s ≡ best_sum f h) where
+  gap : Within 1300000000 (best_sum f g -ℤ best_sum f h)
+  gap = gap_within (best_sum f g) (best_sum f h) (best_shifted f g h hg hh) (best_shifted f h g hh hg)
+
+  both : kept_z r -ℤ kept_z s ≡ best_sum f g -ℤ best_sum f h
+  both = ap₂ (λ (x y : ℤ). x -ℤ y) (ap kept_z er ∙ clean (best_sum f g) (best_within f g hf hg)) (ap kept_z es ∙ clean (best_sum f h) (best_within f h hf hh))
+
+  pub gap_fits : FitsSigned w32 (kept_z r -ℤ kept_z s)
+  gap_fits = subst (FitsSigned w32) (sym both) (fits (best_sum f g -ℤ best_sum f h) gap)
+
+  pub gap_is : kept_z (kept_z r -ℤ kept_z s) ≡ best_sum f g -ℤ best_sum f h
+  gap_is = ap kept_z both ∙ clean (best_sum f g -ℤ best_sum f h) gap
+
+pub greater_clean : (x y r : ℤ) → Within 600049149 x → Within 600049149 y → r ≡ int_max (kept_z x) (kept_z y) → kept_z r ≡ int_max x y
+greater_clean x y r hx hy e =
+    let w : Within 1300000000 (int_max x y) = max_within x y (wider 600049149 1300000000 x (omega arith) hx) (wider 600049149 1300000000 y (omega arith) hy) in
+    ap kept_z (e ∙ ap₂ int_max (clean_after x hx) (clean_after y hy)) ∙ clean (int_max x y) w
+
+-- ---- one soft value of a step
+chosen_within : (zero_after one_after : List ℤ) (x p : ℕ) → Within 600049149 (number_at zero_after p) → Within 600049149 (number_at one_after p) → Within 600049149 (chosen_after zero_after one_after p x)
+chosen_within a b zero p h k = h
+chosen_within a b (suc x) p h k = k
+
+pub soft_value : (fore a b g0 g1 : List ℤ) (k : ℕ) (d : ℤ) → k < 4
+    → ((p : ℕ) → p < 4 → Within 600000000 (number_at fore p)) → ((p : ℕ) → p < 4 → Within 600049149 (number_at a p)) → ((p : ℕ) → p < 4 → Within 600049149 (number_at b p))
+    → ((p : ℕ) → p < 4 → number_at g1 p ≡ chosen_after a b p (pick k 1 p)) → ((p : ℕ) → p < 4 → number_at g0 p ≡ chosen_after a b p (pick k 0 p))
+    → d ≡ best_sum (number_at fore) (number_at g1) -ℤ best_sum (number_at fore) (number_at g0)
+    → IsSoft (IsEdge 2 4) (λ (e : ℕ × ℕ). soft_bit k e.0 e.1) (λ e. number_at fore e.0 +ℤ chosen_after a b e.0 e.1) (kept_z d)
+soft_value fore a b g0 g1 k d h hf ha hb e1 e0 ed =
+    let f : ℕ → ℤ = number_at fore in
+    let up : ℕ → ℤ = λ p. chosen_after a b p (pick k 1 p) in
+    let down : ℕ → ℤ = λ p. chosen_after a b p (pick k 0 p) in
+    let wu : (p : ℕ) → p < 4 → Within 600049149 (up p) = λ p l. chosen_within a b (pick k 1 p) p (ha p l) (hb p l) in
+    let wd : (p : ℕ) → p < 4 → Within 600049149 (down p) = λ p l. chosen_within a b (pick k 0 p) p (ha p l) (hb p l) in
+    let s : d ≡ best_sum f up -ℤ best_sum f down = ed ∙ ap₂ (λ (x y : ℤ). x -ℤ y) (best_same f (number_at g1) up e1) (best_same f (number_at g0) down e0) in
+    let w : Within 1300000000 (best_sum f up -ℤ best_sum f down) = gap f up down hf wu wd (best_sum f up) (best_sum f down) refl refl in
+    class_soft f (chosen_after a b) k (kept_z d) h (ap kept_z s ∙ clean (best_sum f up -ℤ best_sum f down) w)
+
+-- the four places of a list that was put together
+pub places_within : (a b c d : ℤ) → Within 600049149 a → Within 600049149 b → Within 600049149 c → Within 600049149 d → (p : ℕ) → p < 4
+    → Within 600049149 (number_at (kept_z a ∷ kept_z b ∷ kept_z c ∷ kept_z d ∷ []) p)
+places_within a b c d ha hb hc hd = at_four (λ p. Within 600049149 (number_at (kept_z a ∷ kept_z b ∷ kept_z c ∷ kept_z d ∷ []) p))
+    (subst (Within 600049149) (sym (clean_after a ha)) ha) (subst (Within 600049149) (sym (clean_after b hb)) hb) (subst (Within 600049149) (sym (clean_after c hc)) hc) (subst (Within 600049149) (sym (clean_after d hd)) hd)
+
+-- what the two lists say of an edge
+pub after_edge : (l back a b : List ℤ) → ((p : ℕ) → p < 4 → number_at a p ≡ edge_sum l p 0 +ℤ number_at back (outer_next p 0)) → ((p : ℕ) → p < 4 → number_at b p ≡ edge_sum l p 1 +ℤ number_at back (outer_next p 1))
+    → (p x : ℕ) → p < 4 → x < 2 → chosen_after a b p x ≡ edge_sum l p x +ℤ number_at back (outer_next p x)
+after_edge l back a b f g p zero h k = f p h
+after_edge l back a b f g p (suc zero) h k = g p h
+after_edge l back a b f g p (suc (suc x)) h k = absurd (omega arith)
+
+pub afters_within : (l back a : List ℤ) (x : ℕ) → x < 2 → AllWithin 16383 l → ((q : ℕ) → q < 4 → Within 600000000 (number_at back q)) → ((p : ℕ) → p < 4 → number_at a p ≡ edge_sum l p x +ℤ number_at back (outer_next p x))
+    → (p : ℕ) → p < 4 → Within 600049149 (number_at a p)
+afters_within l back a x hx hl hb f p h =
+    subst (Within 600049149) (sym (f p h)) (after_within (edge_sum l p x) (number_at back (outer_next p x)) (edge_sum_within l p x hl) (hb (outer_next p x) (outer-stays p x h hx)))

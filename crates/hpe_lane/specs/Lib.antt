@@ -1,0 +1,2 @@
+pub mod OuterStage
+pub mod OuterSums

@@ -1,0 +1,6 @@
+//! One stage of a trellis: what its states score before it or after it, from what they score on its other side.
+#![tactic(auto)]
+
+mod outer;
+
+pub use outer::{outer_back, outer_forward};

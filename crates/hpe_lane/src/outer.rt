@@ -1,0 +1,152 @@
+// A stage of the outer trellis, whose state 2a + b stands for the last input a and the input b before it. Two of the
+// three outputs of an edge are the same, so that its eight edges have four scores.
+ghost use Rattle.std.specs.Prelude.{◌≡◌, ℕ, ◌+◌, ◌*◌, ◌/◌, ◌%◌, ◌<◌, ◌^◌, ◌+ℤ◌, ◌-ℤ◌};
+ghost use Rattle.std.specs.Int.{int_max};
+ghost use Rattle.hpe_base.specs.Sizes.{number_at, Within, AllWithin};
+ghost use Rattle.hpe_base.specs.Greatest.{IsGreatest, IsSoft};
+ghost use Rattle.hpe_base.specs.Trellis.{IsEdge};
+ghost use Rattle.hpe_lane.specs.OuterStage.{outer_next, edge_sum, soft_bit};
+ghost use Rattle.hpe_lane.specs.OuterSums.{best_sum, chosen_after};
+
+use hpe_base::Steps;
+use std::sync::ledger::Ledger;
+
+/// The greater of `a + x` and `b + y`.
+fn greater_sum(a: i32, x: i32, b: i32, y: i32) -> i32
+    requires a { Within 600000000 a }
+    requires x { Within 600049149 x }
+    requires b { Within 600000000 b }
+    requires y { Within 600049149 y }
+    ensures { result ≡ int_max (a +ℤ x) (b +ℤ y) }
+{
+    (a + x).max(b + y)
+}
+
+/// For each state, the greater score of the two edges that lead to it.
+fn forward_row(row: [i32; 4], l: [i32; 3]) -> [i32; 4]
+    requires row { (q : ℕ) → q < 4 → Within 600000000 (number_at row q) }
+    requires l { AllWithin 16383 l }
+    ensures { (q : ℕ) → q < 4 → number_at result q ≡ int_max (number_at row (2 * (q % 2)) +ℤ edge_sum l (2 * (q % 2)) (q / 2)) (number_at row (2 * (q % 2) + 1) +ℤ edge_sum l (2 * (q % 2) + 1) (q / 2)) }
+{
+    let second = l[1] + l[2];
+    let all = l[0] + second;
+    let none = greater_sum(row[0], 0, row[1], all);
+    let before = greater_sum(row[2], second, row[3], l[0]);
+    let last = greater_sum(row[0], all, row[1], 0);
+    let both = greater_sum(row[2], l[0], row[3], second);
+    [none, before, last, both]
+}
+
+/// What the states score after a stage: for each, the greatest of what a state scores before the stage and its edge to
+/// that state.
+///
+/// `row` is what they score before it, each at most 600,000,000 in size, and `l` the a-priori numbers of the stage's
+/// three outputs, 0 for one that isn't kept.
+pub fn outer_forward<L: Ledger>(row: [i32; 4], l: [i32; 3], steps: &mut Steps<L>) -> [i32; 4]
+    requires row { (q : ℕ) → q < 4 → Within 600000000 (number_at row q) }
+    requires l { AllWithin 16383 l }
+    requires room { steps.old < 2 ^ 60 }
+    ensures row { (q : ℕ) → q < 4 → IsGreatest (λ (e : ℕ × ℕ). IsEdge 2 4 e × (outer_next e.0 e.1 ≡ q)) (λ e. number_at row e.0 +ℤ edge_sum l e.0 e.1) (number_at result q) }
+    ensures step { steps.new ≡ steps.old + 1 }
+{
+    steps.tick();
+    forward_row(row, l)
+}
+
+/// What each state scores from the stage on with input 0, and what with input 1.
+fn afters(l: [i32; 3], back: [i32; 4]) -> ([i32; 4], [i32; 4])
+    requires back { (q : ℕ) → q < 4 → Within 600000000 (number_at back q) }
+    requires l { AllWithin 16383 l }
+    ensures zero { (p : ℕ) → p < 4 → number_at result.0 p ≡ edge_sum l p 0 +ℤ number_at back (outer_next p 0) }
+    ensures one { (p : ℕ) → p < 4 → number_at result.1 p ≡ edge_sum l p 1 +ℤ number_at back (outer_next p 1) }
+{
+    let second = l[1] + l[2];
+    let all = l[0] + second;
+    (
+        [back[0], all + back[0], second + back[1], l[0] + back[1]],
+        [all + back[2], back[2], l[0] + back[3], second + back[3]],
+    )
+}
+
+/// The greatest of the four sums.
+fn greatest_sum(fore: [i32; 4], after: [i32; 4]) -> i32
+    requires fore { (q : ℕ) → q < 4 → Within 600000000 (number_at fore q) }
+    requires after { (q : ℕ) → q < 4 → Within 600049149 (number_at after q) }
+    ensures { result ≡ best_sum (number_at fore) (number_at after) }
+{
+    let low = greater_sum(fore[0], after[0], fore[1], after[1]);
+    let high = greater_sum(fore[2], after[2], fore[3], after[3]);
+    low.max(high)
+}
+
+/// The greatest of the sums with `one` less the greatest of those with `zero`.
+fn difference(fore: [i32; 4], zero: [i32; 4], one: [i32; 4]) -> i32
+    requires fore { (q : ℕ) → q < 4 → Within 600000000 (number_at fore q) }
+    requires zero { (q : ℕ) → q < 4 → Within 600049149 (number_at zero q) }
+    requires one { (q : ℕ) → q < 4 → Within 600049149 (number_at one q) }
+    ensures { result ≡ best_sum (number_at fore) (number_at one) -ℤ best_sum (number_at fore) (number_at zero) }
+{
+    greatest_sum(fore, one) - greatest_sum(fore, zero)
+}
+
+/// The greater of two numbers, place by place.
+fn greater_of(zero: [i32; 4], one: [i32; 4]) -> [i32; 4]
+    requires zero { (q : ℕ) → q < 4 → Within 600049149 (number_at zero q) }
+    requires one { (q : ℕ) → q < 4 → Within 600049149 (number_at one q) }
+    ensures { (p : ℕ) → p < 4 → number_at result p ≡ int_max (number_at zero p) (number_at one p) }
+{
+    [
+        zero[0].max(one[0]),
+        zero[1].max(one[1]),
+        zero[2].max(one[2]),
+        zero[3].max(one[3]),
+    ]
+}
+
+/// The soft values of the input and of the three outputs, where a state scores `zero` from the stage on with input 0
+/// and `one` with input 1.
+fn soft_values(fore: [i32; 4], zero: [i32; 4], one: [i32; 4]) -> [i32; 4]
+    requires fore { (q : ℕ) → q < 4 → Within 600000000 (number_at fore q) }
+    requires zero { (q : ℕ) → q < 4 → Within 600049149 (number_at zero q) }
+    requires one { (q : ℕ) → q < 4 → Within 600049149 (number_at one q) }
+    ensures { (k : ℕ) → k < 4 → IsSoft (IsEdge 2 4) (λ (e : ℕ × ℕ). soft_bit k e.0 e.1) (λ e. number_at fore e.0 +ℤ chosen_after zero one e.0 e.1) (number_at result k) }
+{
+    let input = difference(fore, zero, one);
+    // the first output isn't the input where b is 1, the second and third where one of a and b is
+    let first = difference(
+        fore,
+        [zero[0], one[1], zero[2], one[3]],
+        [one[0], zero[1], one[2], zero[3]],
+    );
+    let second = difference(
+        fore,
+        [zero[0], one[1], one[2], zero[3]],
+        [one[0], zero[1], zero[2], one[3]],
+    );
+    [input, first, second, second]
+}
+
+/// What the states score from a stage on, and the soft values of the stage's input and of its three outputs.
+///
+/// `fore` is what the states score before the stage, `back` what they score after it, each at most 600,000,000 in size,
+/// and `l` the a-priori numbers of the three outputs, 0 for one that isn't kept.
+pub fn outer_back<L: Ledger>(
+    fore: [i32; 4],
+    l: [i32; 3],
+    back: [i32; 4],
+    steps: &mut Steps<L>,
+) -> ([i32; 4], [i32; 4])
+    requires fore { (q : ℕ) → q < 4 → Within 600000000 (number_at fore q) }
+    requires l { AllWithin 16383 l }
+    requires back { (q : ℕ) → q < 4 → Within 600000000 (number_at back q) }
+    requires room { steps.old < 2 ^ 60 }
+    ensures row { (p : ℕ) → p < 4 → IsGreatest (λ (x : ℕ). x < 2) (λ x. edge_sum l p x +ℤ number_at back (outer_next p x)) (number_at result.0 p) }
+    ensures soft { (k : ℕ) → k < 4 → IsSoft (IsEdge 2 4) (λ (e : ℕ × ℕ). soft_bit k e.0 e.1) (λ e. number_at fore e.0 +ℤ (edge_sum l e.0 e.1 +ℤ number_at back (outer_next e.0 e.1))) (number_at result.1 k) }
+    ensures step { steps.new ≡ steps.old + 1 }
+{
+    steps.tick();
+    let (zero, one) = afters(l, back);
+    let row = greater_of(zero, one);
+    let soft = soft_values(fore, zero, one);
+    (row, soft)
+}
