@@ -1,0 +1,4 @@
+pub mod KeptBits
+pub mod Bounds
+pub mod Runs
+pub mod Steps

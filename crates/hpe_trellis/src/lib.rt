@@ -1,0 +1,10 @@
+//! The soft values of the outer code, by a forward and a backward recursion over its trellis.
+//!
+//! The forward recursion keeps a row of scores before each step, in memory that the caller lends; the backward one meets
+//! it, and gives the soft values as it goes.
+#![tactic(auto)]
+
+mod outer;
+mod puncturing;
+
+pub use outer::{outer_rows, outer_soft};
