@@ -6,5 +6,7 @@
 
 mod outer;
 mod puncturing;
+#[cfg(test)]
+mod tests;
 
 pub use outer::{outer_rows, outer_soft};
