@@ -2,5 +2,7 @@
 #![tactic(auto)]
 
 mod outer;
+#[cfg(test)]
+mod tests;
 
 pub use outer::{outer_back, outer_forward};

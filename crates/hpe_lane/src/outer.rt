@@ -49,8 +49,9 @@ pub fn outer_forward<L: Ledger>(row: [i32; 4], l: [i32; 3], steps: &mut Steps<L>
     ensures row { (q : ℕ) → q < 4 → IsGreatest (λ (e : ℕ × ℕ). IsEdge 2 4 e × (outer_next e.0 e.1 ≡ q)) (λ e. number_at row e.0 +ℤ edge_sum l e.0 e.1) (number_at result q) }
     ensures step { steps.new ≡ steps.old + 1 }
 {
+    let next = forward_row(row, l);
     steps.tick();
-    forward_row(row, l)
+    next
 }
 
 /// What each state scores from the stage on with input 0, and what with input 1.

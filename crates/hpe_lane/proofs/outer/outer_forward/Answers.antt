@@ -3,4 +3,4 @@ use Rattle.hpe_lane.proofs.OuterEdges.{forward_top}
 use Rattle.hpe_lane.proofs.outer.outer_forward.Goals as goal
 
 pub returns-clause-row : goal.returns-clause-row
-returns-clause-row g c = λ q h. forward_top c.args.row c.args.l q (number_at c.forward_row.result q) h (c.forward_row.ensures q h)
+returns-clause-row g c = λ q h. forward_top c.args.row c.args.l q (number_at c.forward_row-next.result q) h (c.forward_row-next.ensures q h)
