@@ -6,3 +6,4 @@ pub mod Parities
 pub mod Sums
 pub mod DifferingBits
 pub mod Soft
+pub mod Folding
