@@ -1,5 +1,7 @@
 -- Folding a list of scores by the input bits of its places.
-use Rattle.std.proofs.Common.{◌≡◌, ℕ, zero, suc, ◌+◌, ◌-◌, ◌*◌, ◌/◌, ◌%◌, ◌^◌, ◌<◌, ◌≤◌, ⊎_elim, sym, ◌∙◌, ap, ap₂, subst, refl, arith, ℤ, pos, ◌+ℤ◌, ◌-ℤ◌, ◌≤ℤ◌, List}
+use Rattle.std.proofs.Common.{◌≡◌, ℕ, zero, suc, ◌+◌, ◌-◌, ◌*◌, ◌/◌, ◌%◌, ◌^◌, ◌<◌, ◌≤◌, ⊎_elim, sym, ◌∙◌, ap, ap₂, subst, refl, arith, ℤ, pos, ◌+ℤ◌, ◌-ℤ◌, ◌≤ℤ◌, List, length, ◌++◌, length-append}
+use Rattle.std.proofs.Math.ListN.{get_or-append}
+use Rattle.std.proofs.lemmas.List.{get_or-append-add}
 use Rattle.std.specs.Int.{bit_at, int_max}
 use Rattle.std.proofs.lemmas.Int.{ints}
 use Rattle.std.proofs.lemmas.Bool.{cases_lt}
@@ -14,6 +16,7 @@ use Rattle.hpe_base.specs.Greatest.{IsGreatest, IsSoft}
 use Rattle.hpe_base.specs.Trellis.{IsEdge}
 use Rattle.hpe_base.proofs.Greatest.{max_left, max_right, max_cases, le_trans}
 use Rattle.hpe_lane.specs.Edges.{input_bit}
+use Rattle.hpe_lane.specs.Near.{Near}
 
 -- ---- input bits of a place and of its mirror image
 
@@ -84,9 +87,6 @@ last_place k = omega arith
 no_bit : (v k : ℕ) → v < 2 ^ k → bit_at v k ≡ 0
 no_bit v k h = ap (λ (n : ℕ). n % 2) (div-eq_of_lt h)
 
-one_bit : (v k : ℕ) → v < 2 ^ k → bit_at (2 ^ k + v) k ≡ 1
-one_bit v k h = let e : 2 ^ k + v ≡ 1 * 2 ^ k + v = omega arith in ap (λ (n : ℕ). n / 2 ^ k % 2) e ∙ ap (λ (n : ℕ). n % 2) (div-mul-add 1 (2 ^ k) v h)
-
 -- a place of the first half, as a place of a list of half the length
 front_input : (k j v : ℕ) → j < k → v < 2 ^ k → input_bit (suc k) (suc j) 0 v ≡ input_bit k j 0 v
 front_input k zero v h below =
@@ -100,11 +100,14 @@ back_input k j v h below =
     let two : 2 ^ suc k ≡ 2 ^ k + 2 ^ k = two-pow-succ k in
     turned_later (suc k) j 0 0 v (omega arith) (omega arith) ∙ front_input k j v h below
 
-first_front : (k v : ℕ) → v < 2 ^ k → input_bit (suc k) 0 0 v ≡ 0
-first_front k v h = ap (λ (a : ℕ). xor (bit_at v a) 0) (last_place k) ∙ ap (λ (a : ℕ). xor a 0) (no_bit v k h)
+half_number : (b : ℕ) → b < 2 → xor (b % 2) 0 ≡ b
+half_number b h = omega arith
 
-first_back : (k v : ℕ) → v < 2 ^ k → input_bit (suc k) 0 0 (2 ^ k + v) ≡ 1
-first_back k v h = ap (λ (a : ℕ). xor (bit_at (2 ^ k + v) a) 0) (last_place k) ∙ ap (λ (a : ℕ). xor a 0) (one_bit v k h)
+-- the first input bit tells the halves apart
+first_input : (k w : ℕ) → w < 2 ^ suc k → input_bit (suc k) 0 0 w ≡ w / 2 ^ k
+first_input k w h =
+    ap (λ (a : ℕ). xor (bit_at w a) 0) (last_place k)
+    ∙ half_number (w / 2 ^ k) (below_times w 2 (2 ^ k) (pow_pos k) (let two : 2 ^ suc k ≡ 2 ^ k + 2 ^ k = two-pow-succ k in omega arith))
 
 -- ---- folding
 
@@ -190,60 +193,106 @@ module _ (m i k : ℕ) (start now next : List ℤ) (so_far : Folded m i (suc k) 
       }
 
 -- the soft value of input bit i, from the halves of a list that is folded i times
-module _ (m i k : ℕ) (start now low high : List ℤ) (l h : ℤ) (so_far : Folded m i (suc k) start now)
-    (front : (v : ℕ) → v < 2 ^ k → number_at low v ≡ number_at now v) (back : (v : ℕ) → v < 2 ^ k → number_at high v ≡ number_at now (2 ^ k + v))
-    (least : IsGreatest (λ (v : ℕ). v < 2 ^ k) (number_at low) l) (most : IsGreatest (λ (v : ℕ). v < 2 ^ k) (number_at high) h) where
-  same_first : (v w : ℕ) → SameBits m i (suc k) v w → input_bit m i 0 v ≡ input_bit (suc k) 0 0 w
-  same_first v w same = let e : i + 0 ≡ i = omega arith in ap (λ (n : ℕ). input_bit m n 0 v) (sym e) ∙ same 0 (omega arith)
+module _ (m i k : ℕ) (start now : List ℤ) (so_far : Folded m i (suc k) start now) where
+  same_first : (v w : ℕ) → w < 2 ^ suc k → SameBits m i (suc k) v w → input_bit m i 0 v ≡ w / 2 ^ k
+  same_first v w h same =
+      let e : i + 0 ≡ i = omega arith in ap (λ (n : ℕ). input_bit m n 0 v) (sym e) ∙ same 0 (omega arith) ∙ first_input k w h
 
-  below_one : (v w : ℕ) → w < 2 ^ suc k → number_at start v ≤ℤ number_at now w → input_bit (suc k) 0 0 w ≡ 1 → number_at start v ≤ℤ h
-  below_one v w below le bit =
-      let two : 2 ^ suc k ≡ 2 ^ k + 2 ^ k = two-pow-succ k in
-      ⊎_elim
-      (λ (f : w < 2 ^ k). absurd (omega (arith, first_front k w f)))
-      (λ (f : 2 ^ k ≤ w).
-      let u : ℕ = w - 2 ^ k in
-      let e : 2 ^ k + u ≡ w = omega arith in
-      let b : u < 2 ^ k = omega arith in
-      le_trans _ _ _ le (subst (λ (z : ℤ). z ≤ℤ h) (back u b ∙ ap (number_at now) e) (most.bound u b)))
-      (cases_lt w (2 ^ k))
-
-  below_zero : (v w : ℕ) → w < 2 ^ suc k → number_at start v ≤ℤ number_at now w → input_bit (suc k) 0 0 w ≡ 0 → number_at start v ≤ℤ l
-  below_zero v w below le bit =
-      let two : 2 ^ suc k ≡ 2 ^ k + 2 ^ k = two-pow-succ k in
-      ⊎_elim
-      (λ (f : w < 2 ^ k). le_trans _ _ _ le (subst (λ (z : ℤ). z ≤ℤ l) (front w f) (least.bound w f)))
-      (λ (f : 2 ^ k ≤ w).
-      let u : ℕ = w - 2 ^ k in
-      let e : 2 ^ k + u ≡ w = omega arith in
-      let b : u < 2 ^ k = omega arith in
-      absurd (omega (arith, ap (input_bit (suc k) 0 0) (sym e) ∙ first_back k u b)))
-      (cases_lt w (2 ^ k))
-
-  pub soft_of_halves : IsSoft (λ (v : ℕ). v < 2 ^ m) (input_bit m i 0) (number_at start) (h -ℤ l)
-  soft_of_halves =
-      let two : 2 ^ suc k ≡ 2 ^ k + 2 ^ k = two-pow-succ k in
-      let top = most.reached in
-      let at = so_far.from (2 ^ k + top.0) (omega (arith, top.1.0)) in
-      let low_top = least.reached in
-      let low_at = so_far.from low_top.0 (omega (arith, low_top.1.0)) in
+  greatest_start : (b : ℕ) (z : ℤ) → IsGreatest (λ (w : ℕ). (w < 2 ^ suc k) × (w / 2 ^ k ≡ b)) (number_at now) z
+      → IsGreatest (λ (v : ℕ). (v < 2 ^ m) × (input_bit m i 0 v ≡ b)) (number_at start) z
+  greatest_start b z g =
+      let w : ℕ = g.reached.0 in
+      let f = so_far.from w g.reached.1.0.0 in
       record {
-        one = h;
-        zero = l;
-        with_one = record {
-          reached = (at.0, ((at.1.0, same_first at.0 (2 ^ k + top.0) at.1.1.1 ∙ first_back k top.0 top.1.0), at.1.1.0 ∙ sym (back top.0 top.1.0) ∙ top.1.1));
-          bound = λ v p. let g = so_far.into v p.0 in below_one v g.0 g.1.0 g.1.1.0 (sym (same_first v g.0 g.1.1.1) ∙ p.1);
-        };
-        with_zero = record {
-          reached = (low_at.0, ((low_at.1.0, same_first low_at.0 low_top.0 low_at.1.1.1 ∙ first_front k low_top.0 low_top.1.0), low_at.1.1.0 ∙ sym (front low_top.0 low_top.1.0) ∙ low_top.1.1));
-          bound = λ v p. let g = so_far.into v p.0 in below_zero v g.0 g.1.0 g.1.1.0 (sym (same_first v g.0 g.1.1.1) ∙ p.1);
-        };
-        value = refl;
+        reached = (f.0, ((f.1.0, same_first f.0 w g.reached.1.0.0 f.1.1.1 ∙ g.reached.1.0.1), f.1.1.0 ∙ g.reached.1.1));
+        bound = λ v p. let h = so_far.into v p.0 in le_trans _ _ _ h.1.1.0 (g.bound h.0 (h.1.0, sym (same_first v h.0 h.1.0 h.1.1.1) ∙ p.1));
       }
 
--- no two numbers of the list differ more
-abbrev pub Near : ℕ → ℕ → List ℤ → Type 0
-Near most n xs = (v w : ℕ) → v < n → w < n → number_at xs v ≤ℤ (number_at xs w +ℤ pos most)
+  pub soft_start : (z : ℤ) → IsSoft (λ (w : ℕ). w < 2 ^ suc k) (λ w. w / 2 ^ k) (number_at now) z → IsSoft (λ (v : ℕ). v < 2 ^ m) (input_bit m i 0) (number_at start) z
+  soft_start z g = record { one = g.one; zero = g.zero; with_one = greatest_start 1 g.one g.with_one; with_zero = greatest_start 0 g.zero g.with_zero; value = g.value }
+
+  -- the folded list holds numbers of the first
+  pub near_now : (most : ℕ) → Near most (2 ^ m) start → Near most (2 ^ suc k) now
+  near_now most near v w h l =
+      let f = so_far.from v h in
+      let g = so_far.from w l in
+      subst (λ (z : ℤ). z ≤ℤ (number_at now w +ℤ pos most)) f.1.1.0
+      (subst (λ (z : ℤ). number_at start f.0 ≤ℤ (z +ℤ pos most)) g.1.1.0 (near f.0 g.0 f.1.0 g.1.0))
+
+-- the halves of a list
+module _ (low high : List ℤ) (h : ℕ) (some : 0 < h) (front : length low ≡ h) (behind : length high ≡ h) (l u : ℤ)
+    (least : IsGreatest (λ (v : ℕ). v < h) (number_at low) l) (most : IsGreatest (λ (v : ℕ). v < h) (number_at high) u) where
+  in_front : (v : ℕ) → v < h → (number_at (low ++ high) v ≡ number_at low v) × (v / h ≡ 0)
+  in_front v b = (get_or-append low high (pos 0) v (omega arith), div-eq_of_lt b)
+
+  in_back : (v : ℕ) → v < h → (number_at (low ++ high) (h + v) ≡ number_at high v) × ((h + v) / h ≡ 1)
+  in_back v b = (
+    ap (λ (n : ℕ). number_at (low ++ high) (n + v)) (sym front) ∙ get_or-append-add low high v (pos 0),
+    (let e : h + v ≡ 1 * h + v = omega arith in ap (λ (n : ℕ). n / h) e ∙ div-mul-add 1 h v b),
+  )
+
+  back_bound : (v : ℕ) → v < h + h → v / h ≡ 1 → number_at (low ++ high) v ≤ℤ u
+  back_bound v b e = ⊎_elim
+      (λ (f : v < h). absurd (omega (arith, (in_front v f).1)))
+      (λ (f : h ≤ v).
+      let w : ℕ = v - h in
+      let at : h + w ≡ v = omega arith in
+      let lt : w < h = omega arith in
+      subst (λ (z : ℤ). z ≤ℤ u) (sym (in_back w lt).0 ∙ ap (number_at (low ++ high)) at) (most.bound w lt))
+      (cases_lt v h)
+
+  front_bound : (v : ℕ) → v < h + h → v / h ≡ 0 → number_at (low ++ high) v ≤ℤ l
+  front_bound v b e = ⊎_elim
+      (λ (f : v < h). subst (λ (z : ℤ). z ≤ℤ l) (sym (in_front v f).0) (least.bound v f))
+      (λ (f : h ≤ v).
+      let w : ℕ = v - h in
+      let at : h + w ≡ v = omega arith in
+      let lt : w < h = omega arith in
+      absurd (omega (arith, ap (λ (n : ℕ). n / h) (sym at) ∙ (in_back w lt).1)))
+      (cases_lt v h)
+
+  pub soft_of_halves : IsSoft (λ (v : ℕ). v < h + h) (λ v. v / h) (number_at (low ++ high)) (u -ℤ l)
+  soft_of_halves = record {
+    one = u;
+    zero = l;
+    with_one = record {
+      reached = (h + most.reached.0, ((omega (arith, most.reached.1.0), (in_back most.reached.0 most.reached.1.0).1), (in_back most.reached.0 most.reached.1.0).0 ∙ most.reached.1.1));
+      bound = λ v p. back_bound v p.0 p.1;
+    };
+    with_zero = record {
+      reached = (least.reached.0, ((omega (arith, least.reached.1.0), (in_front least.reached.0 least.reached.1.0).1), (in_front least.reached.0 least.reached.1.0).0 ∙ least.reached.1.1));
+      bound = λ v p. front_bound v p.0 p.1;
+    };
+    value = refl;
+  }
+
+-- a list of an even length
+pub halves_soft : (xs low high : List ℤ) (l u : ℤ) → xs ≡ low ++ high → 0 < length low → length high ≡ length low
+    → IsGreatest (λ (v : ℕ). v < length low) (number_at low) l → IsGreatest (λ (v : ℕ). v < length high) (number_at high) u
+    → IsSoft (λ (v : ℕ). v < length xs) (λ v. v / (length xs / 2)) (number_at xs) (u -ℤ l)
+halves_soft xs low high l u whole some same least most =
+    let h : ℕ = length low in
+    let long : length (low ++ high) ≡ h + h = omega (arith, length-append low high) in
+    let half : length (low ++ high) / 2 ≡ h = omega arith in
+    subst (λ (ys : List ℤ). IsSoft (λ (v : ℕ). v < length ys) (λ v. v / (length ys / 2)) (number_at ys) (u -ℤ l)) (sym whole)
+    (subst (λ (n : ℕ). IsSoft (λ (v : ℕ). v < n) (λ v. v / (length (low ++ high) / 2)) (number_at (low ++ high)) (u -ℤ l)) (sym long)
+    (subst (λ (n : ℕ). IsSoft (λ (v : ℕ). v < h + h) (λ v. v / n) (number_at (low ++ high)) (u -ℤ l)) (sym half)
+    (soft_of_halves low high h some refl same l u least (subst (λ (n : ℕ). IsGreatest (λ (v : ℕ). v < n) (number_at high) u) same most))))
+
+pub halves_folded : (xs low high new : List ℤ) → xs ≡ low ++ high → length high ≡ length low → length new ≡ length low
+    → ((v : ℕ) → v < length low → number_at new v ≡ int_max (number_at low v) (number_at high (length high - 1 - v)))
+    → (v : ℕ) → v < length xs / 2 → number_at (new ++ high) v ≡ int_max (number_at xs v) (number_at xs (length xs - 1 - v))
+halves_folded xs low high new whole same kept raised v below =
+    let h : ℕ = length low in
+    let long : length xs ≡ h + h = ap length whole ∙ omega (arith, length-append low high) in
+    let lt : v < h = omega arith in
+    let w : ℕ = length high - 1 - v in
+    let back : w < length high = omega arith in
+    let at : h + w ≡ length xs - 1 - v = omega arith in
+    get_or-append new high (pos 0) v (omega arith)
+    ∙ raised v lt
+    ∙ ap₂ (λ (x y : ℤ). int_max x y) (sym (get_or-append low high (pos 0) v lt) ∙ ap (λ (ys : List ℤ). number_at ys v) (sym whole))
+    (sym (get_or-append-add low high w (pos 0)) ∙ ap₂ (λ (ys : List ℤ) (n : ℕ). number_at ys n) (sym whole) at)
 
 difference_near : (most : ℕ) (h l : ℤ) → h ≤ℤ (l +ℤ pos most) → l ≤ℤ (h +ℤ pos most) → Within most (h -ℤ l)
 difference_near most h l a b = (omega (arith, ints), omega (arith, ints))

@@ -7,3 +7,5 @@ pub mod Sums
 pub mod DifferingBits
 pub mod Soft
 pub mod Folding
+pub mod FoldLoop
+pub mod Joint

@@ -1,20 +1,22 @@
 -- Sums of scores that fit, and rows as the greatest of their edges.
-use Rattle.std.proofs.Common.{◌≡◌, ℕ, zero, suc, ◌*◌, ◌%◌, ◌<◌, ◌≤◌, ⊎_elim, sym, ◌∙◌, ap, ap₂, subst, arith, rules, ℤ, ◌+ℤ◌, ◌≤ℤ◌, List, [], ◌∷◌, bit_and, w32, to_z, of_z, FitsSigned}
+use Rattle.std.proofs.Common.{◌≡◌, lit≤, ℕ, zero, suc, ◌*◌, ◌%◌, ◌<◌, ◌≤◌, ◌⊎◌, inl, inr, ⊎_elim, sym, ◌∙◌, ap, ap₂, subst, arith, rules, ℤ, ◌+ℤ◌, ◌-ℤ◌, ◌≤ℤ◌, List, [], ◌∷◌, length, set, bit_and, w32, to_z, of_z, FitsSigned}
 use Rattle.std.specs.Prelude.{count_ones}
 use Rattle.std.specs.Int.{int_max}
 use Rattle.std.specs.Int.Count.{ones-le, ones-ones}
+use Rattle.std.proofs.lemmas.Bool.{cases_lt}
 use Rattle.std.proofs.lemmas.Nat.Bits.{and_pow, bit_at_lowest}
-use Rattle.std.proofs.lemmas.Int.{ints, clamps}
+use Rattle.std.proofs.lemmas.Int.{ints, clamps, to_z-of_z}
 use Rattle.hpe_base.specs.Greatest.{IsGreatest}
 use Rattle.hpe_base.specs.Trellis.{IsEdge}
-use Rattle.hpe_base.proofs.Greatest.{max_left, max_right, max_cases, le_trans, plus_mono}
+use Rattle.hpe_base.proofs.Greatest.{max_left, max_right, max_cases, le_trans, plus_mono, IsGreatest-join}
 use Rattle.hpe_base.specs.Sizes.{number_at, Within}
 use Rattle.hpe_lane.specs.Edges.{HasParity, edge_of}
+use Rattle.hpe_lane.proofs.DifferingBits.{wider}
 
 pub fits : (z : ℤ) → Within 2000000000 z → FitsSigned w32 z
 fits z h = search (rules, ints)
 
-pub fits_sum : (a b : ℤ) → Within 1100000000 a → Within 147447 b → FitsSigned w32 (to_z w32 (of_z w32 a) +ℤ to_z w32 (of_z w32 b))
+pub fits_sum : (a b : ℤ) → Within 1700000000 a → Within 147447 b → FitsSigned w32 (to_z w32 (of_z w32 a) +ℤ to_z w32 (of_z w32 b))
 fits_sum a b h k =
     let p : FitsSigned w32 a = search (rules, ints) in
     let q : FitsSigned w32 b = search (rules, ints) in
@@ -65,19 +67,87 @@ at_pair x y P p q zero h = p
 at_pair x y P p q (suc zero) h = q
 at_pair x y P p q (suc (suc b)) h = absurd (omega arith)
 
-sum_is : (a b : ℤ) → Within 1100000000 a → Within 147447 b → to_z w32 (of_z w32 (to_z w32 (of_z w32 a) +ℤ to_z w32 (of_z w32 b))) ≡ a +ℤ b
+sum_is : (a b : ℤ) → Within 1700000000 a → Within 147447 b → to_z w32 (of_z w32 (to_z w32 (of_z w32 a) +ℤ to_z w32 (of_z w32 b))) ≡ a +ℤ b
 sum_is a b h k = omega (arith, ints)
 
 max_fits : (x y : ℤ) → Within 2000000000 x → Within 2000000000 y → to_z w32 (of_z w32 (int_max x y)) ≡ int_max x y
 max_fits x y h k = omega (arith, ints, clamps)
 
-within_sum : (a b : ℤ) → Within 1100000000 a → Within 147447 b → Within 2000000000 (a +ℤ b)
+within_sum : (a b : ℤ) → Within 1700000000 a → Within 147447 b → Within 2000000000 (a +ℤ b)
 within_sum a b h k = (omega (arith, ints), omega (arith, ints))
 
 -- the greater of two sums, as the code has it
-pub max_of_sums : (a b c d r : ℤ) → Within 1100000000 a → Within 147447 b → Within 1100000000 c → Within 147447 d
+pub max_of_sums : (a b c d r : ℤ) → Within 1700000000 a → Within 147447 b → Within 1700000000 c → Within 147447 d
     → r ≡ int_max (to_z w32 (of_z w32 (to_z w32 (of_z w32 a) +ℤ to_z w32 (of_z w32 b)))) (to_z w32 (of_z w32 (to_z w32 (of_z w32 c) +ℤ to_z w32 (of_z w32 d))))
     → to_z w32 (of_z w32 r) ≡ int_max (a +ℤ b) (c +ℤ d)
 max_of_sums a b c d r ha hb hc hd e =
     let f : r ≡ int_max (a +ℤ b) (c +ℤ d) = e ∙ ap₂ int_max (sum_is a b ha hb) (sum_is c d hc hd) in
     ap (λ (z : ℤ). to_z w32 (of_z w32 z)) f ∙ max_fits (a +ℤ b) (c +ℤ d) (within_sum a b ha hb) (within_sum c d hc hd)
+
+-- the difference of two scores that lie near each other
+pub fits_difference : (x y : ℤ) → Within 1200294894 (x -ℤ y) → to_z w32 (of_z w32 x) ≡ x → to_z w32 (of_z w32 y) ≡ y → FitsSigned w32 (to_z w32 (of_z w32 x) -ℤ to_z w32 (of_z w32 y))
+fits_difference x y h ex ey = subst (FitsSigned w32) (sym (ap₂ (λ (a b : ℤ). a -ℤ b) ex ey)) (fits (x -ℤ y) (wide (x -ℤ y) h))
+  where
+    wide : (z : ℤ) → Within 1200294894 z → Within 2000000000 z
+    wide z h = (let a = h.0 in omega (arith, ints), let a = h.1 in omega (arith, ints))
+
+pub difference_is : (x y : ℤ) → Within 1200294894 (x -ℤ y) → to_z w32 (of_z w32 x) ≡ x → to_z w32 (of_z w32 y) ≡ y → to_z w32 (of_z w32 (to_z w32 (of_z w32 x) -ℤ to_z w32 (of_z w32 y))) ≡ x -ℤ y
+difference_is x y h ex ey =
+    to_z-of_z w32 (to_z w32 (of_z w32 x) -ℤ to_z w32 (of_z w32 y)) (fits_difference x y h ex ey) ∙ ap₂ (λ (a b : ℤ). a -ℤ b) ex ey
+
+-- a forward row is within what sums take
+pub row_wide : (row : List ℤ) → ((s : ℕ) → s < 2 → Within 1100000000 (number_at row s)) → (s : ℕ) → s < 2 → Within 1700000000 (number_at row s)
+row_wide row h s l = let w = h s l in wider 1100000000 1700000000 (number_at row s) (lit≤ tt) w
+
+-- all places of a list of four that are written one after another
+pub at_four : (xs : List ℤ) (x y z w : ℤ) (P : ℕ → ℤ → Type 0) → length xs ≡ 4 → P 0 x → P 1 y → P 2 z → P 3 w
+    → (i : ℕ) → i < 4 → P i (number_at (set (set (set (set xs 0 x) 1 y) 2 z) 3 w) i)
+at_four [] x y z w P e p q r s i h = absurd (omega arith)
+at_four (a ∷ []) x y z w P e p q r s i h = absurd (omega arith)
+at_four (a ∷ b ∷ []) x y z w P e p q r s i h = absurd (omega arith)
+at_four (a ∷ b ∷ c ∷ []) x y z w P e p q r s i h = absurd (omega arith)
+at_four (a ∷ b ∷ c ∷ d ∷ xs) x y z w P e p q r s zero h = p
+at_four (a ∷ b ∷ c ∷ d ∷ xs) x y z w P e p q r s (suc zero) h = q
+at_four (a ∷ b ∷ c ∷ d ∷ xs) x y z w P e p q r s (suc (suc zero)) h = r
+at_four (a ∷ b ∷ c ∷ d ∷ xs) x y z w P e p q r s (suc (suc (suc zero))) h = s
+at_four (a ∷ b ∷ c ∷ d ∷ xs) x y z w P e p q r s (suc (suc (suc (suc i)))) h = absurd (omega arith)
+
+-- and so is a backward row
+pub back_wide : (row : List ℤ) → ((s : ℕ) → s < 2 → Within 600000000 (number_at row s)) → (s : ℕ) → s < 2 → Within 1700000000 (number_at row s)
+back_wide row h s l = let w = h s l in wider 600000000 1700000000 (number_at row s) (lit≤ tt) w
+
+plus_swap : (x y : ℤ) → x +ℤ y ≡ y +ℤ x
+plus_swap x y = omega (arith, ints)
+
+even_or_odd : (k : ℕ) → (k % 2 ≡ 0) ⊎ (k % 2 ≡ 1)
+even_or_odd k = ⊎_elim (λ (h : k % 2 < 1). inl (omega arith)) (λ (h : 1 ≤ k % 2). inr (omega arith)) (cases_lt (k % 2) 1)
+
+-- the greatest of a state's edges with what comes after them, from its best edges to each state
+pub after_top : (from back : List ℤ) (n : ℕ) (e o : ℤ) → IsGreatest (HasParity n 1 0) (number_at from) e → IsGreatest (HasParity n 1 1) (number_at from) o
+    → IsGreatest (λ (v : ℕ). v < n) (λ v. number_at from v +ℤ number_at back (v % 2)) (int_max (number_at back 0 +ℤ e) (number_at back 1 +ℤ o))
+after_top from back n e o g h =
+    IsGreatest-join (λ v p. p.0) (λ v p. p.0)
+    (λ v p. ⊎_elim (λ b. inl (p, parity_of_one v ∙ b)) (λ b. inr (p, parity_of_one v ∙ b)) (even_or_odd v))
+    (with_back 0 e g) (with_back 1 o h)
+  where
+    with_back : (b : ℕ) (z : ℤ) → IsGreatest (HasParity n 1 b) (number_at from) z → IsGreatest (HasParity n 1 b) (λ v. number_at from v +ℤ number_at back (v % 2)) (number_at back b +ℤ z)
+    with_back b z g = record {
+      reached = (g.reached.0, (g.reached.1.0, same g.reached.0 g.reached.1.0.1 ∙ ap (λ (x : ℤ). number_at back b +ℤ x) g.reached.1.1));
+      bound = λ v p. subst (λ (x : ℤ). x ≤ℤ (number_at back b +ℤ z)) (sym (same v p.1)) (plus_mono (number_at back b) (number_at from v) z (g.bound v p));
+    }
+      where
+        same : (v : ℕ) → count_ones (bit_and v 1) % 2 ≡ b → number_at from v +ℤ number_at back (v % 2) ≡ number_at back b +ℤ number_at from v
+        same v e = ap (λ (k : ℕ). number_at from v +ℤ number_at back k) (sym (parity_of_one v) ∙ e) ∙ plus_swap (number_at from v) (number_at back b)
+
+-- the sum of a forward and a backward row's numbers, as the code has it
+abbrev pub sum32 : ℤ → ℤ → ℤ
+sum32 a b = to_z w32 (of_z w32 (to_z w32 (of_z w32 a) +ℤ to_z w32 (of_z w32 b)))
+
+pub around_is : (a b : ℤ) → Within 1100000000 a → Within 600000000 b → sum32 a b ≡ a +ℤ b
+around_is a b h k = omega (arith, ints)
+
+pub around_within : (a b : ℤ) → Within 1100000000 a → Within 600000000 b → Within 1700000000 (sum32 a b)
+around_within a b h k = subst (Within 1700000000) (sym (around_is a b h k)) (within a b h k)
+  where
+    within : (a b : ℤ) → Within 1100000000 a → Within 600000000 b → Within 1700000000 (a +ℤ b)
+    within a b h k = (omega (arith, ints), omega (arith, ints))

@@ -1,4 +1,4 @@
 pub mod OuterStage
 pub mod OuterSums
 pub mod Edges
-pub mod Masked
+pub mod Near

@@ -2,7 +2,9 @@
 //! they score on its other side.
 #![tactic(auto)]
 
+mod fold;
 mod gray;
+mod join;
 mod outer;
 mod parity;
 mod stage;

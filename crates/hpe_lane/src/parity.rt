@@ -7,7 +7,6 @@ ghost use Rattle.hpe_lane.specs.Edges.{HasParity};
 pub fn best_by_parity(scores: &[i32], mask: u32) -> [i32; 2]
     requires low { 1 ≤ mask }
     requires high { mask < length scores.now }
-    requires short { length scores.now ≤ 256 }
     ensures even { IsGreatest (HasParity (length scores.now) mask 0) (number_at scores.now) (number_at result 0) }
     ensures odd { IsGreatest (HasParity (length scores.now) mask 1) (number_at scores.now) (number_at result 1) }
 {
@@ -15,21 +14,11 @@ pub fn best_by_parity(scores: &[i32], mask: u32) -> [i32; 2]
     let mut even = scores[0];
     let mut odd = scores[first_odd];
     for (v, score) in scores.iter().enumerate() {
-        if (v as u32 & mask).count_ones() % 2 == 0 {
+        if (v & mask as usize).count_ones() % 2 == 0 {
             even = even.max(*score);
         } else {
             odd = odd.max(*score);
         }
     }
     [even, odd]
-}
-
-/// The greatest of all scores.
-pub fn greatest(scores: &[i32]) -> i32
-    requires some { 2 ≤ length scores.now }
-    requires short { length scores.now ≤ 256 }
-    ensures { IsGreatest (λ (v : ℕ). v < length scores.now) (number_at scores.now) result }
-{
-    let best = best_by_parity(scores, 1);
-    best[0].max(best[1])
 }

@@ -12,7 +12,7 @@ use Rattle.hpe_lane.proofs.parity.best_by_parity.Goals as goal
 use Rattle.hpe_lane.proofs.parity.best_by_parity.Goals.{then-v-mask-eq0, else-v-mask-eq0}
 
 pub bounds-scores-first_odd : goal.bounds-scores-first_odd
-bounds-scores-first_odd c = (lowest_set c.args.mask _ c.requires.low c.requires.high c.requires.short).0
+bounds-scores-first_odd c = (lowest_set c.args.mask _ c.requires.low c.requires.high (omega arith)).0
 
 even_zero : (mask : ℕ) → 0 < 2 → count_ones (bit_and 0 mask) % 2 ≡ 0
 even_zero mask h = let z : count_ones 0 ≤ 0 = ones-le 0 0 (omega arith) in rw and_zero_l (omega arith)
@@ -23,7 +23,7 @@ start xs n mask b i t e p = record { reached = (i, (p, sym e)); bound = λ v h q
 pub loop-v-init : goal.loop-v-init
 loop-v-init c =
     let n : ℕ = length c.args.scores.now in
-    let p = lowest_set c.args.mask n c.requires.low c.requires.high c.requires.short in
+    let p = lowest_set c.args.mask n c.requires.low c.requires.high (omega arith) in
     let z : HasParity n c.args.mask 0 0 = (omega arith, even_zero c.args.mask (omega arith)) in
     record {
       even = start c.args.scores.now n c.args.mask 0 0 _ (search rules) z;

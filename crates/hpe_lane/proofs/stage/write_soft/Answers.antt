@@ -1,64 +1,70 @@
-use Rattle.std.proofs.Common.{◌≡◌, ◌≢◌, ℕ, zero, suc, ◌+◌, ◌-◌, ◌*◌, ◌%◌, ◌^◌, ◌<◌, ◌≤◌, ⊎_elim, ℤ, pos, rules, ◌+ℤ◌, List, length, set, get_or-set_same, get_or-set_other, arith, sym, ◌∙◌, ap, subst, to_z, of_z, w32}
-use Rattle.std.proofs.Math.ListN.{length-set}
-use Rattle.std.proofs.lemmas.Bool.{cases_lt}
+use Rattle.std.proofs.Common.{◌≡◌, ℕ, ◌-◌, ◌%◌, ◌^◌, ◌<◌, ◌+ℤ◌, ℤ, List, [], ◌∷◌, length, arith, sym, ◌∙◌, ap, subst}
+use Rattle.std.specs.Int.{int_max}
 use Rattle.hpe_base.specs.Greatest.{IsSoft}
 use Rattle.hpe_base.specs.Trellis.{IsEdge}
-use Rattle.hpe_base.specs.Sizes.{number_at}
+use Rattle.hpe_base.specs.Sizes.{number_at, Within}
 use Rattle.hpe_lane.specs.Edges.{edge_of, input_bit}
-use Rattle.hpe_lane.specs.Masked.{masked, masked_turned}
-use Rattle.hpe_lane.proofs.Parities.{one_mask, pair_mask, pair_below}
-use Rattle.hpe_lane.proofs.Soft.{IsSoft-bit, first_bit, later_bit}
+use Rattle.hpe_lane.specs.Near.{Near}
+use Rattle.hpe_lane.proofs.Sums.{sum32, around_is, around_within, at_pair}
+use Rattle.hpe_lane.proofs.Joint.{in_fours, soft_joint, joint_near}
 use Rattle.hpe_lane.proofs.stage.write_soft.Goals as goal
 
-pub soft_straight-requires-clause-high : goal.soft_straight-requires-clause-high
-soft_straight-requires-clause-high c =
-    let k : ℕ = length c.args.out.now - 1 - c.loop-i.i in
-    let p = pair_mask k (omega arith) in
-    let q = pair_below (length c.args.out.now) k (omega arith) in
-    omega arith
+pub join-requires-clause-fours : goal.join-requires-clause-fours
+join-requires-clause-fours c = ap (λ (n : ℕ). n % 4) c.requires.joint ∙ in_fours (length c.args.out.now) c.requires.few.0
 
-module _ (fore after0 after1 : List ℤ) (n m : ℕ) where
-  first : (mask : ℕ) (z : ℤ) → mask ≡ 2 ^ (m - 1) → IsSoft (IsEdge n 2) (masked_turned mask) (λ e. number_at fore e.0 +ℤ edge_of after0 after1 e.0 e.1) z
-      → IsSoft (IsEdge n 2) (λ (e : ℕ × ℕ). input_bit m 0 e.0 e.1) (λ e. number_at fore e.0 +ℤ edge_of after0 after1 e.0 e.1) z
-  first mask z e g = IsSoft-bit (λ x h. first_bit m x.0 x.1 ∙ ap (λ (k : ℕ). masked_turned k (x.0, x.1)) (sym e)) g
+pub join-requires-clause-around0 : goal.join-requires-clause-around0
+join-requires-clause-around0 c =
+    let f : ℤ = number_at c.args.fore 0 in
+    let b : ℤ = number_at c.args.back 0 in
+    let d : ℤ = number_at c.args.back 1 in
+    let hf = c.requires.fore 0 (omega arith) in
+    at_pair (sum32 f b) (sum32 f d) (λ (s : ℕ) (z : ℤ). Within 1700000000 z) (around_within f b hf (c.requires.back 0 (omega arith))) (around_within f d hf (c.requires.back 1 (omega arith)))
 
-  later : (mask i : ℕ) (z : ℤ) → 1 ≤ i → i < m → mask ≡ 3 * 2 ^ (m - 1 - i) + 0 → IsSoft (IsEdge n 2) (masked mask) (λ e. number_at fore e.0 +ℤ edge_of after0 after1 e.0 e.1) z
-      → IsSoft (IsEdge n 2) (λ (e : ℕ × ℕ). input_bit m i e.0 e.1) (λ e. number_at fore e.0 +ℤ edge_of after0 after1 e.0 e.1) z
-  later mask zero z low lt e g = absurd (omega arith)
-  later mask (suc i) z low lt e g = IsSoft-bit (λ x h. later_bit m i x.0 x.1 lt ∙ ap (λ (k : ℕ). masked k (x.0, x.1)) (sym e)) g
+pub join-requires-clause-around1 : goal.join-requires-clause-around1
+join-requires-clause-around1 c =
+    let f : ℤ = number_at c.args.fore 1 in
+    let b : ℤ = number_at c.args.back 0 in
+    let d : ℤ = number_at c.args.back 1 in
+    let hf = c.requires.fore 1 (omega arith) in
+    at_pair (sum32 f d) (sum32 f b) (λ (s : ℕ) (z : ℤ). Within 1700000000 z) (around_within f d hf (c.requires.back 1 (omega arith))) (around_within f b hf (c.requires.back 0 (omega arith)))
 
-  write : (out : List ℤ) (k : ℕ) (z : ℤ) → k < length out
-      → ((i : ℕ) → i < k → IsSoft (IsEdge n 2) (λ (e : ℕ × ℕ). input_bit m i e.0 e.1) (λ e. number_at fore e.0 +ℤ edge_of after0 after1 e.0 e.1) (number_at out i))
-      → IsSoft (IsEdge n 2) (λ (e : ℕ × ℕ). input_bit m k e.0 e.1) (λ e. number_at fore e.0 +ℤ edge_of after0 after1 e.0 e.1) z
-      → (i : ℕ) → i < k + 1 → IsSoft (IsEdge n 2) (λ (e : ℕ × ℕ). input_bit m i e.0 e.1) (λ e. number_at fore e.0 +ℤ edge_of after0 after1 e.0 e.1) (number_at (set out k z) i)
-  write out k z room before here i h =
-      ⊎_elim
-      (λ (p : i < k). let ne : i ≢ k = omega arith in
-      subst (IsSoft (IsEdge n 2) (λ (e : ℕ × ℕ). input_bit m i e.0 e.1) (λ e. number_at fore e.0 +ℤ edge_of after0 after1 e.0 e.1)) (sym (get_or-set_other out k i z (pos 0) ne)) (before i p))
-      (λ (p : k ≤ i). let same : k ≡ i = omega arith in
-      subst (λ (j : ℕ). IsSoft (IsEdge n 2) (λ (e : ℕ × ℕ). input_bit m j e.0 e.1) (λ e. number_at fore e.0 +ℤ edge_of after0 after1 e.0 e.1) (number_at (set out k z) j)) same
-      (subst (IsSoft (IsEdge n 2) (λ (e : ℕ × ℕ). input_bit m k e.0 e.1) (λ e. number_at fore e.0 +ℤ edge_of after0 after1 e.0 e.1)) (sym (get_or-set_same out k z (pos 0) room)) here))
-      (cases_lt i k)
+-- what stands around an edge of each state, as the code has it
+abbrev around_first : List ℤ → List ℤ → List ℤ
+around_first fore back = sum32 (number_at fore 0) (number_at back 0) ∷ sum32 (number_at fore 0) (number_at back 1) ∷ []
 
-pub loop-i-init : goal.loop-i-init
-loop-i-init c =
+abbrev around_second : List ℤ → List ℤ → List ℤ
+around_second fore back = sum32 (number_at fore 1) (number_at back 1) ∷ sum32 (number_at fore 1) (number_at back 0) ∷ []
+
+module _ (fore back : List ℤ) (hf : (s : ℕ) → s < 2 → Within 1100000000 (number_at fore s)) (hb : (s : ℕ) → s < 2 → Within 600000000 (number_at back s)) where
+  first : (s : ℕ) → s < 2 → number_at (around_first fore back) s ≡ number_at fore 0 +ℤ number_at back s
+  first = at_pair (sum32 (number_at fore 0) (number_at back 0)) (sum32 (number_at fore 0) (number_at back 1)) (λ (s : ℕ) (z : ℤ). z ≡ number_at fore 0 +ℤ number_at back s)
+      (around_is (number_at fore 0) (number_at back 0) (hf 0 (omega arith)) (hb 0 (omega arith)))
+      (around_is (number_at fore 0) (number_at back 1) (hf 0 (omega arith)) (hb 1 (omega arith)))
+
+  second : (s : ℕ) → s < 2 → number_at (around_second fore back) s ≡ number_at fore 1 +ℤ number_at back (1 - s)
+  second = at_pair (sum32 (number_at fore 1) (number_at back 1)) (sum32 (number_at fore 1) (number_at back 0)) (λ (s : ℕ) (z : ℤ). z ≡ number_at fore 1 +ℤ number_at back (1 - s))
+      (around_is (number_at fore 1) (number_at back 1) (hf 1 (omega arith)) (hb 1 (omega arith)))
+      (around_is (number_at fore 1) (number_at back 0) (hf 1 (omega arith)) (hb 0 (omega arith)))
+
+pub fold_soft-requires-clause-near : goal.fold_soft-requires-clause-near
+fold_soft-requires-clause-near c =
     let m : ℕ = length c.args.out.now in
-    let mask = one_mask (m - 1) (omega arith) in
-    let z : ℤ = to_z w32 (of_z w32 c.soft_turned.result) in
-    let is : z ≡ c.soft_turned.result = search rules in
-    write c.args.fore c.args.after0.now c.args.after1.now (length c.args.after0.now) m c.args.out.now 0 z (omega arith) (λ i h. absurd (omega (arith, h)))
-    (subst (IsSoft (IsEdge (length c.args.after0.now) 2) (λ (e : ℕ × ℕ). input_bit m 0 e.0 e.1) (λ e. number_at c.args.fore e.0 +ℤ edge_of c.args.after0.now c.args.after1.now e.0 e.1)) (sym is)
-    (first c.args.fore c.args.after0.now c.args.after1.now (length c.args.after0.now) m (1 * 2 ^ (m - 1) % 4294967296) c.soft_turned.result mask c.soft_turned.ensures))
+    let joint : List ℤ = c.join.new.joint in
+    let long : length joint ≡ 2 ^ m = omega arith in
+    let all : length c.args.joint.now ≡ 2 ^ m = c.requires.joint in
+    subst (λ (n : ℕ). Near 1200294894 n joint) (sym long)
+    (joint_near m (omega arith) c.args.fore c.args.from0.now c.args.from1.now c.args.back (around_first c.args.fore c.args.back) (around_second c.args.fore c.args.back) joint (first c.args.fore c.args.back c.requires.fore c.requires.back) (second c.args.fore c.args.back c.requires.fore c.requires.back)
+    (subst (λ (n : ℕ). (v : ℕ) → v < n → number_at joint v ≡ int_max (number_at (around_first c.args.fore c.args.back) (v % 2) +ℤ number_at c.args.from0.now v) (number_at (around_second c.args.fore c.args.back) (v % 2) +ℤ number_at c.args.from1.now (n - 1 - v))) all c.join.ensures)
+    c.requires.edges0 c.requires.edges1 c.requires.back)
 
-pub loop-i-preserved : goal.loop-i-preserved
-loop-i-preserved c =
+pub returns : goal.returns
+returns c = λ i h.
     let m : ℕ = length c.args.out.now in
-    let k : ℕ = c.loop-i.i in
-    let lt : k < m = omega arith in
-    let low : 1 ≤ k = c.loop-i.auto.i in
-    let mask = pair_mask (m - 1 - k) (omega arith) in
-    let z : ℤ = to_z w32 (of_z w32 c.soft_straight.result) in
-    let is : z ≡ c.soft_straight.result = search rules in
-    write c.args.fore c.args.after0.now c.args.after1.now (length c.args.after0.now) m c.loop-i.out k z (omega (arith, length-set {A = ℤ})) c.loop-i.invariant
-    (subst (IsSoft (IsEdge (length c.args.after0.now) 2) (λ (e : ℕ × ℕ). input_bit m k e.0 e.1) (λ e. number_at c.args.fore e.0 +ℤ edge_of c.args.after0.now c.args.after1.now e.0 e.1)) (sym is)
-    (later c.args.fore c.args.after0.now c.args.after1.now (length c.args.after0.now) m (3 * 2 ^ (m - 1 - k) % 4294967296) k c.soft_straight.result low lt mask c.soft_straight.ensures))
+    let joint : List ℤ = c.join.new.joint in
+    let long : length joint ≡ 2 ^ m = omega arith in
+    let all : length c.args.joint.now ≡ 2 ^ m = c.requires.joint in
+    let z : ℤ = number_at c.fold_soft.new.out i in
+    subst (λ (n : ℕ). IsSoft (IsEdge n 2) (λ (e : ℕ × ℕ). input_bit m i e.0 e.1) (λ e. number_at c.args.fore e.0 +ℤ (edge_of c.args.from0.now c.args.from1.now e.0 e.1 +ℤ number_at c.args.back (e.1 % 2))) z) (sym c.requires.from0)
+    (soft_joint m (omega arith) c.args.fore c.args.from0.now c.args.from1.now c.args.back (around_first c.args.fore c.args.back) (around_second c.args.fore c.args.back) joint (first c.args.fore c.args.back c.requires.fore c.requires.back) (second c.args.fore c.args.back c.requires.fore c.requires.back)
+    (subst (λ (n : ℕ). (v : ℕ) → v < n → number_at joint v ≡ int_max (number_at (around_first c.args.fore c.args.back) (v % 2) +ℤ number_at c.args.from0.now v) (number_at (around_second c.args.fore c.args.back) (v % 2) +ℤ number_at c.args.from1.now (n - 1 - v))) all c.join.ensures)
+    i z h (c.fold_soft.ensures i h))
