@@ -9,3 +9,4 @@ pub mod Soft
 pub mod Folding
 pub mod FoldLoop
 pub mod Joint
+pub mod LaneBests

@@ -34,5 +34,5 @@ lowest_set mask n low high short =
     let s : 1 * 2 ^ k % 18446744073709551616 ≡ 2 ^ k = omega arith in
     subst (λ (v : ℕ). HasParity n mask 1 v) (sym s) (omega arith, parity_one k mask t.1)
 
-ones_zero : count_ones 0 ≡ 0
+pub ones_zero : count_ones 0 ≡ 0
 ones_zero = let z : count_ones 0 ≤ 0 = ones-le 0 0 (omega arith) in omega arith

@@ -2,3 +2,4 @@ pub mod OuterStage
 pub mod OuterSums
 pub mod Edges
 pub mod Near
+pub mod Lanes

@@ -1,33 +1,33 @@
 use Rattle.std.specs.Prelude.{count_ones}
-use Rattle.std.specs.Int.Count.{ones-le, count_trailing_zeros}
+use Rattle.std.specs.Int.Count.{count_trailing_zeros}
 use Rattle.std.specs.Int.Bits.{and_zero_l}
-use Rattle.std.proofs.Common.{rules, arith, ℕ, ◌≡◌, ◌<◌, ◌≤◌, ◌+◌, ◌*◌, ◌%◌, ◌^◌, List, bit_and, ℤ, pos, get_or, length, sym, subst, to_z, w32}
+use Rattle.std.proofs.Common.{rules, arith, ℕ, ◌≡◌, ◌≤◌, ◌+◌, ◌*◌, ◌%◌, ◌^◌, List, ℤ, pos, get_or, length, sym, ◌∙◌, ap, subst, to_z, of_z, w32}
 use Rattle.std.specs.Int.{int_max}
-use Rattle.hpe_base.proofs.Greatest.{IsGreatestBelow}
-use Rattle.hpe_base.proofs.Greatest.{IsGreatestBelow-take, IsGreatestBelow-pass, IsGreatestBelow-all}
 use Rattle.hpe_base.specs.Sizes.{number_at}
+use Rattle.hpe_base.proofs.Greatest.{IsGreatestBelow, IsGreatestBelow-take, IsGreatestBelow-pass, IsGreatestBelow-all}
 use Rattle.hpe_lane.specs.Edges.{HasParity}
-use Rattle.hpe_lane.proofs.Parities.{lowest_set}
+use Rattle.hpe_lane.proofs.LaneBests.{from-blocks, no_less}
+use Rattle.hpe_lane.proofs.Parities.{lowest_set, ones_zero}
 use Rattle.hpe_lane.proofs.parity.best_by_parity.Goals as goal
 use Rattle.hpe_lane.proofs.parity.best_by_parity.Goals.{then-v-mask-eq0, else-v-mask-eq0}
 
 pub bounds-scores-first_odd : goal.bounds-scores-first_odd
 bounds-scores-first_odd c = (lowest_set c.args.mask _ c.requires.low c.requires.high (omega arith)).0
 
-even_zero : (mask : ℕ) → 0 < 2 → count_ones (bit_and 0 mask) % 2 ≡ 0
-even_zero mask h = let z : count_ones 0 ≤ 0 = ones-le 0 0 (omega arith) in rw and_zero_l (omega arith)
-
-start : (xs : List ℤ) (n mask b i : ℕ) (t : ℤ) → t ≡ get_or xs i (pos 0) → HasParity n mask b i → IsGreatestBelow 0 (HasParity n mask b) (number_at xs) t
-start xs n mask b i t e p = record { reached = (i, (p, sym e)); bound = λ v h q. absurd (omega (arith, h)) }
-
 pub loop-v-init : goal.loop-v-init
 loop-v-init c =
-    let n : ℕ = length c.args.scores.now in
-    let p = lowest_set c.args.mask n c.requires.low c.requires.high (omega arith) in
-    let z : HasParity n c.args.mask 0 0 = (omega arith, even_zero c.args.mask (omega arith)) in
+    let xs : List ℤ = c.args.scores.now in
+    let n : ℕ = length xs in
+    let mask : ℕ = c.args.mask in
+    let best : List ℤ = c.best_of_blocks-best.result in
+    let w : ℕ = 1 * 2 ^ count_trailing_zeros 32 mask % 18446744073709551616 in
+    let first : HasParity n mask 0 0 = (omega arith, ap (λ (k : ℕ). count_ones k % 2) (and_zero_l mask) ∙ ap (λ (k : ℕ). k % 2) ones_zero) in
+    let first_odd : HasParity n mask 1 w = lowest_set mask n c.requires.low c.requires.high (omega arith) in
+    let e : to_z w32 (of_z w32 c.max-even.result) ≡ int_max (number_at best 0) (get_or xs 0 (pos 0)) = search rules in
+    let o : to_z w32 (of_z w32 c.max-odd.result) ≡ int_max (number_at best 1) (get_or xs w (pos 0)) = search rules in
     record {
-      even = start c.args.scores.now n c.args.mask 0 0 _ (search rules) z;
-      odd = start c.args.scores.now n c.args.mask 1 (1 * 2 ^ count_trailing_zeros 32 c.args.mask % 18446744073709551616) _ (search rules) p;
+      even = from-blocks mask 0 n 0 xs (number_at best 0) _ first e (no_less (number_at xs 0) (search rules)) c.best_of_blocks-best.ensures.even;
+      odd = from-blocks mask 1 n w xs (number_at best 1) _ first_odd o (no_less (number_at xs w) (search rules)) c.best_of_blocks-best.ensures.odd;
     }
 
 pub loop-v-preserved : goal.loop-v-preserved

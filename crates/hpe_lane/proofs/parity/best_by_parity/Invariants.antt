@@ -1,6 +1,6 @@
 use Rattle.std.proofs.Common.{length}
-use Rattle.hpe_base.proofs.Greatest.{IsGreatestBelow}
 use Rattle.hpe_base.specs.Sizes.{number_at}
+use Rattle.hpe_base.proofs.Greatest.{IsGreatestBelow}
 use Rattle.hpe_lane.specs.Edges.{HasParity}
 use Rattle.hpe_lane.proofs.parity.best_by_parity.Given as goal
 
