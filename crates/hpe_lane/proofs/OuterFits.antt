@@ -10,28 +10,35 @@ use Rattle.hpe_lane.proofs.OuterEdges.{outer-stays}
 use Rattle.hpe_lane.specs.OuterSums.{best_sum, chosen_after}
 use Rattle.hpe_lane.proofs.OuterEdges.{best_shifted, best_same, class_soft, pick, at_four, after_within, edge_sum_within}
 
+-- a number as the machine keeps it
 abbrev pub kept_z : ℤ → ℤ
 kept_z z = to_z w32 (of_z w32 z)
 
+-- numbers of this size fit
 pub fits : (z : ℤ) → Within 1300000000 z → FitsSigned w32 z
 fits z h = search (rules, ints)
 
+-- and are kept as they are
 pub clean : (z : ℤ) → Within 1300000000 z → kept_z z ≡ z
 clean z h = omega (arith, ints)
 
+-- within a size is within a greater one
 pub wider : (m n : ℕ) (z : ℤ) → m ≤ n → Within m z → Within n z
 wider m n z h k = (let a = k.0 in omega (arith, ints), let a = k.1 in omega (arith, ints))
 
--- the three sums of a step's numbers
+-- what an edge scores with the second and third output 1
 pub two_is : (b c : ℤ) → Within 16383 b → Within 16383 c → kept_z (kept_z b +ℤ kept_z c) ≡ pos 0 +ℤ (b +ℤ (c +ℤ pos 0))
 two_is b c hb hc = omega (arith, ints)
 
+-- with one output 1
 pub one_is : (a : ℤ) → Within 16383 a → kept_z a ≡ a +ℤ (pos 0 +ℤ (pos 0 +ℤ pos 0))
 one_is a ha = omega (arith, ints)
 
+-- with all of them 1
 pub all_is : (a b c : ℤ) → Within 16383 a → Within 16383 b → Within 16383 c → kept_z (kept_z a +ℤ kept_z (kept_z b +ℤ kept_z c)) ≡ a +ℤ (b +ℤ (c +ℤ pos 0))
 all_is a b c ha hb hc = omega (arith, ints)
 
+-- with none
 pub none_is : pos 0 ≡ pos 0 +ℤ (pos 0 +ℤ (pos 0 +ℤ pos 0))
 none_is = refl
 
@@ -39,15 +46,19 @@ none_is = refl
 pub sum_fits : (e k x y : ℤ) → k ≡ e → Within 49149 e → Within 600000000 x → y ≡ x → FitsSigned w32 (k +ℤ y)
 sum_fits e k x y s he hx t = let z : Within 1300000000 (e +ℤ x) = (omega (arith, ints), omega (arith, ints)) in subst (FitsSigned w32) (sym (ap₂ (λ (u v : ℤ). u +ℤ v) s t)) (fits (e +ℤ x) z)
 
+-- and their sum is kept
 pub sum_is : (e k x y : ℤ) → k ≡ e → Within 49149 e → Within 600000000 x → y ≡ x → kept_z (k +ℤ y) ≡ e +ℤ x
 sum_is e k x y s he hx t = let z : Within 1300000000 (e +ℤ x) = (omega (arith, ints), omega (arith, ints)) in ap kept_z (ap₂ (λ (u v : ℤ). u +ℤ v) s t) ∙ clean (e +ℤ x) z
 
+-- the number behind an edge that scores 0
 pub alone_is : (x : ℤ) → Within 600000000 x → kept_z x ≡ (pos 0 +ℤ (pos 0 +ℤ (pos 0 +ℤ pos 0))) +ℤ x
 alone_is x h = omega (arith, ints)
 
+-- a row's numbers are kept as they are
 pub clean_row : (x : ℤ) → Within 600000000 x → kept_z x ≡ x
 clean_row x h = omega (arith, ints)
 
+-- and so are sums of an edge and what is behind it
 pub clean_after : (x : ℤ) → Within 600049149 x → kept_z x ≡ x
 clean_after x h = omega (arith, ints)
 
@@ -60,6 +71,7 @@ greater_is a x b y r ha hx hb hy e =
     let w : Within 1300000000 (int_max (a +ℤ x) (b +ℤ y)) = (omega (arith, ints, clamps), omega (arith, ints, clamps)) in
     ap kept_z (e ∙ ap₂ int_max p q) ∙ clean (int_max (a +ℤ x) (b +ℤ y)) w
 
+-- the greater of two sums fits
 sums_within : (a x b y : ℤ) → Within 600000000 a → Within 600049149 x → Within 600000000 b → Within 600049149 y → Within 1300000000 (int_max (a +ℤ x) (b +ℤ y))
 sums_within a x b y ha hx hb hy = (omega (arith, ints, clamps), omega (arith, ints, clamps))
 
@@ -70,21 +82,24 @@ forward_is a e b f a2 e2 b2 f2 r ha he hb hf ea ee eb ef h =
     let s : r ≡ int_max (a +ℤ e) (b +ℤ f) = h ∙ ap₂ int_max (ap₂ (λ (u v : ℤ). u +ℤ v) ea ee) (ap₂ (λ (u v : ℤ). u +ℤ v) eb ef) in
     ap kept_z s ∙ clean (int_max (a +ℤ e) (b +ℤ f)) (sums_within a e b f ha (wider 49149 600049149 e (omega arith) he) hb (wider 49149 600049149 f (omega arith) hf))
 
--- the greatest of four sums
+-- the greater of two numbers is within their size
 max_within : (x y : ℤ) → Within 1300000000 x → Within 1300000000 y → Within 1300000000 (int_max x y)
 max_within x y h k = (omega (arith, ints, clamps), omega (arith, ints, clamps))
 
+-- the greatest of four sums fits
 pub best_within : (f g : ℕ → ℤ) → ((p : ℕ) → p < 4 → Within 600000000 (f p)) → ((p : ℕ) → p < 4 → Within 600049149 (g p)) → Within 1300000000 (best_sum f g)
 best_within f g hf hg =
     max_within (int_max (f 0 +ℤ g 0) (f 1 +ℤ g 1)) (int_max (f 2 +ℤ g 2) (f 3 +ℤ g 3))
     (sums_within (f 0) (g 0) (f 1) (g 1) (hf 0 (omega arith)) (hg 0 (omega arith)) (hf 1 (omega arith)) (hg 1 (omega arith)))
     (sums_within (f 2) (g 2) (f 3) (g 3) (hf 2 (omega arith)) (hg 2 (omega arith)) (hf 3 (omega arith)) (hg 3 (omega arith)))
 
+-- the greater of the first two, or of the last two
 pair_is : (a x b y a2 x2 b2 y2 r : ℤ) → Within 600000000 a → Within 600049149 x → Within 600000000 b → Within 600049149 y → r ≡ int_max (kept_z a +ℤ kept_z x) (kept_z b +ℤ kept_z y) → kept_z r ≡ int_max (a +ℤ x) (b +ℤ y)
 pair_is a x b y a2 x2 b2 y2 r ha hx hb hy h =
     let s : r ≡ int_max (a +ℤ x) (b +ℤ y) = h ∙ ap₂ int_max (ap₂ (λ (u v : ℤ). u +ℤ v) (clean_row a ha) (clean_after x hx)) (ap₂ (λ (u v : ℤ). u +ℤ v) (clean_row b hb) (clean_after y hy)) in
     ap kept_z s ∙ clean (int_max (a +ℤ x) (b +ℤ y)) (sums_within a x b y ha hx hb hy)
 
+-- the greatest of four sums, of two pairs
 pub best_is : (f g : List ℤ) (low high r : ℤ) → ((p : ℕ) → p < 4 → Within 600000000 (number_at f p)) → ((p : ℕ) → p < 4 → Within 600049149 (number_at g p))
     → low ≡ int_max (kept_z (number_at f 0) +ℤ kept_z (number_at g 0)) (kept_z (number_at f 1) +ℤ kept_z (number_at g 1))
     → high ≡ int_max (kept_z (number_at f 2) +ℤ kept_z (number_at g 2)) (kept_z (number_at f 3) +ℤ kept_z (number_at g 3))
@@ -94,6 +109,7 @@ best_is f g low high r hf hg el eh e =
     let b = pair_is (number_at f 2) (number_at g 2) (number_at f 3) (number_at g 3) (pos 0) (pos 0) (pos 0) (pos 0) high (hf 2 (omega arith)) (hg 2 (omega arith)) (hf 3 (omega arith)) (hg 3 (omega arith)) eh in
     ap kept_z (e ∙ ap₂ int_max a b) ∙ clean (best_sum (number_at f) (number_at g)) (best_within (number_at f) (number_at g) hf hg)
 
+-- numbers that are close have a small difference
 gap_within : (x y : ℤ) → x ≤ℤ (y +ℤ pos 1200098298) → y ≤ℤ (x +ℤ pos 1200098298) → Within 1300000000 (x -ℤ y)
 gap_within x y h k = (omega (arith, ints), omega (arith, ints))
 
@@ -105,22 +121,26 @@ module _ (f g h : ℕ → ℤ) (hf : (p : ℕ) → p < 4 → Within 600000000 (f
   both : kept_z r -ℤ kept_z s ≡ best_sum f g -ℤ best_sum f h
   both = ap₂ (λ (x y : ℤ). x -ℤ y) (ap kept_z er ∙ clean (best_sum f g) (best_within f g hf hg)) (ap kept_z es ∙ clean (best_sum f h) (best_within f h hf hh))
 
+  -- the difference of two greatest sums fits
   pub gap_fits : FitsSigned w32 (kept_z r -ℤ kept_z s)
   gap_fits = subst (FitsSigned w32) (sym both) (fits (best_sum f g -ℤ best_sum f h) gap)
 
+  -- and is kept
   pub gap_is : kept_z (kept_z r -ℤ kept_z s) ≡ best_sum f g -ℤ best_sum f h
   gap_is = ap kept_z both ∙ clean (best_sum f g -ℤ best_sum f h) gap
 
+-- the greater of two numbers is kept
 pub greater_clean : (x y r : ℤ) → Within 600049149 x → Within 600049149 y → r ≡ int_max (kept_z x) (kept_z y) → kept_z r ≡ int_max x y
 greater_clean x y r hx hy e =
     let w : Within 1300000000 (int_max x y) = max_within x y (wider 600049149 1300000000 x (omega arith) hx) (wider 600049149 1300000000 y (omega arith) hy) in
     ap kept_z (e ∙ ap₂ int_max (clean_after x hx) (clean_after y hy)) ∙ clean (int_max x y) w
 
--- ---- one soft value of a step
+-- with either input a state scores within this size
 chosen_within : (zero_after one_after : List ℤ) (x p : ℕ) → Within 600049149 (number_at zero_after p) → Within 600049149 (number_at one_after p) → Within 600049149 (chosen_after zero_after one_after p x)
 chosen_within a b zero p h k = h
 chosen_within a b (suc x) p h k = k
 
+-- it is the difference of two greatest sums of the lists that have the bit 1 and 0
 pub soft_value : (fore a b g0 g1 : List ℤ) (k : ℕ) (d : ℤ) → k < 4
     → ((p : ℕ) → p < 4 → Within 600000000 (number_at fore p)) → ((p : ℕ) → p < 4 → Within 600049149 (number_at a p)) → ((p : ℕ) → p < 4 → Within 600049149 (number_at b p))
     → ((p : ℕ) → p < 4 → number_at g1 p ≡ chosen_after a b p (pick k 1 p)) → ((p : ℕ) → p < 4 → number_at g0 p ≡ chosen_after a b p (pick k 0 p))
@@ -149,6 +169,7 @@ after_edge l back a b f g p zero h k = f p h
 after_edge l back a b f g p (suc zero) h k = g p h
 after_edge l back a b f g p (suc (suc x)) h k = absurd (omega arith)
 
+-- how large the numbers of such a list are
 pub afters_within : (l back a : List ℤ) (x : ℕ) → x < 2 → AllWithin 16383 l → ((q : ℕ) → q < 4 → Within 600000000 (number_at back q)) → ((p : ℕ) → p < 4 → number_at a p ≡ edge_sum l p x +ℤ number_at back (outer_next p x))
     → (p : ℕ) → p < 4 → Within 600049149 (number_at a p)
 afters_within l back a x hx hl hb f p h =

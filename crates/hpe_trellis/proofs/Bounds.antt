@@ -23,6 +23,7 @@ step_on t n = omega arith
 regroup : (a b c : ℕ) → a + (b + c) ≡ a + b + c
 regroup a b c = omega arith
 
+-- they stand after those before step t
 pub kept-count : (columns : List (List Bool)) (t n : ℕ) → kept_before columns t + kept_count columns t n ≡ kept_before columns (t + n)
 kept-count columns t zero = add-zero (kept_before columns t) ∙ ap (kept_before columns) (sym (add-zero t))
 kept-count columns t (suc n) =
@@ -31,9 +32,11 @@ kept-count columns t (suc n) =
     ∙ kept-count columns (t + 1) n
     ∙ ap (kept_before columns) (sym (step_on t n))
 
+-- from step 0 on they are all
 pub kept-count-all : (columns : List (List Bool)) (n : ℕ) → kept_count columns 0 n ≡ kept_before columns n
 kept-count-all columns n = sym (zero-add (kept_count columns 0 n)) ∙ kept-count columns 0 n ∙ ap (kept_before columns) (zero-add n)
 
+-- numbers from a place on
 pub drop_within : (m n : ℕ) (xs : List ℤ) → AllWithin m xs → (i : ℕ) → Within m (number_at (drop n xs) i)
 drop_within m zero xs f i = f i
 drop_within m (suc n) [] f i = zero_within m
@@ -42,23 +45,28 @@ drop_within m (suc n) (x ∷ xs) f i = drop_within m n xs (λ k. f (suc k)) i
 sum_within : (a b : ℕ) (x z : ℤ) → Within (a * 16383) x → Within (b * 16383) z → Within ((a + b) * 16383) (x +ℤ z)
 sum_within a b x z h k = (let p = h.0 in let q = k.0 in omega (arith, ints), let p = h.1 in let q = k.1 in omega (arith, ints))
 
+-- no more are kept than there are
 pub selected-fits : (fs : List Bool) (xs : List ℕ) → length (selected fs xs) ≤ length xs
 selected-fits [] xs = omega arith
 selected-fits (f ∷ fs) [] = omega arith
 selected-fits (true ∷ fs) (x ∷ xs) = let h = selected-fits fs xs in omega arith
 selected-fits (false ∷ fs) (x ∷ xs) = let h = selected-fits fs xs in omega arith
 
+-- a step keeps three outputs at most
 pub width-small : (columns : List (List Bool)) (t : ℕ) → width columns t ≤ 3
 width-small columns t = selected-fits (column columns t) (0 ∷ 0 ∷ 0 ∷ [])
 
+-- the first and the last state add nothing above 0
 start_high : (q : ℕ) → outer_start q ≤ℤ pos 0
 start_high zero = omega (arith, ints)
 start_high (suc q) = omega (arith, ints)
 
+-- and not less than this
 start_low : (q : ℕ) → negsuc 499999999 ≤ℤ outer_start q
 start_low zero = omega (arith, ints)
 start_low (suc q) = omega (arith, ints)
 
+-- they are 0, or cost so much
 pub start_cases : (q : ℕ) → (q ≡ 0) ⊎ (outer_start q ≡ negsuc 499999999)
 start_cases zero = inl refl
 start_cases (suc q) = inr refl
@@ -76,20 +84,20 @@ one_end q h = omega arith
 two_more : (t : ℕ) → t + 2 ≡ suc (suc t)
 two_more t = omega arith
 
+-- zeros are a path
 pub zeros-path : (k : ℕ) → IsPath 2 k (replicate k 0)
 zeros-path zero = tt
 zeros-path (suc k) = (omega arith, zeros-path k)
 
+-- the last two inputs of a path decide the state that it ends in
 pub ends-two : (t p a b : ℕ) → p < 4 → b < 2 → ends outer_next p (replicate t 0 ++ b ∷ a ∷ []) ≡ 2 * a + b
 ends-two t p a b h k =
     ends-append outer_next p (replicate t 0) (b ∷ a ∷ [])
     ∙ two_ends (ends outer_next p (replicate t 0)) a b (ends-below 2 4 t outer_next outer-stays p (replicate t 0) h (zeros-path t)) k
 
+-- zeros and two inputs are a path
 two-path : (t a b : ℕ) → a < 2 → b < 2 → IsPath 2 (suc (suc t)) (replicate t 0 ++ b ∷ a ∷ [])
 two-path t a b h k = subst (λ (n : ℕ). IsPath 2 n (replicate t 0 ++ b ∷ a ∷ [])) (two_more t) (path-append 2 t 2 (replicate t 0) (b ∷ a ∷ []) (zeros-path t) (k, (h, tt)))
-
-zero_add_z : (a : ℤ) → pos 0 +ℤ a ≡ a
-zero_add_z a = omega (arith, ints)
 
 low_whole : (n : ℕ) (w : ℤ) → n ≤ 15120 → Within (n * 16383) w → negsuc 599999999 ≤ℤ (pos 0 +ℤ w)
 low_whole n w h k = let a = k.1 in omega (arith, ints)
@@ -122,11 +130,13 @@ one_wide : (w : ℕ) → w ≤ 3 → w + 0 ≤ 3
 one_wide w h = omega arith
 
 module _ (columns : List (List Bool)) (l : List ℤ) (within : AllWithin 16383 l) where
+  -- how large what an edge scores is
   pub outer-edge-within : (t p x : ℕ) → Within (width columns t * 16383) (outer_edge columns l t p x)
   outer-edge-within t p x =
       subst (λ (k : ℕ). Within (k * 16383) (outer_edge columns l t p x)) (length-kept (column columns t) (edge_outputs p x) (0 ∷ 0 ∷ 0 ∷ []) refl)
       (chosen-within (drop (kept_before columns t) l) (selected (column columns t) (edge_outputs p x)) (drop_within 16383 (kept_before columns t) l within))
 
+  -- how large what a path scores is
   pub outer-walk-within : (n t p : ℕ) (us : List ℕ) → IsPath 2 n us → Within (kept_count columns t n * 16383) (walk (outer_edge columns l) outer_next t p us)
   outer-walk-within zero t p [] h = zero_within (0 * 16383)
   outer-walk-within zero t p (u ∷ us) h = absurd h
@@ -135,6 +145,7 @@ module _ (columns : List (List Bool)) (l : List ℤ) (within : AllWithin 16383 l
       sum_within (width columns t) (kept_count columns (t + 1) n) (outer_edge columns l t p u) (walk (outer_edge columns l) outer_next (t + 1) (outer_next p u) us)
       (outer-edge-within t p u) (outer-walk-within n (t + 1) (outer_next p u) us h.1)
 
+  -- a path to a state that scores no less than this
   abbrev LowRun : ℕ → ℕ → Type 0
   LowRun t q = (r : ℕ × List ℕ) × ((IsRun 2 4 t r × (ends outer_next r.0 r.1 ≡ q)) × (negsuc 599999999 ≤ℤ (outer_start r.0 +ℤ walk (outer_edge columns l) outer_next 0 r.0 r.1)))
 
@@ -159,6 +170,7 @@ module _ (columns : List (List Bool)) (l : List ℤ) (within : AllWithin 16383 l
         ),
       )
 
+  -- the greatest score of all paths to a state is within the size of a row
   pub fore_fits : (t q : ℕ) (f : ℤ) → kept_before columns t ≤ 15120 → q < 4 → Fore 2 4 (outer_edge columns l) outer_next outer_start t q f → Within 600000000 f
   fore_fits t q f cap low g =
       let k : kept_count columns 0 t ≤ 15120 = subst (λ (n : ℕ). n ≤ 15120) (sym (kept-count-all columns t)) cap in
@@ -168,6 +180,7 @@ module _ (columns : List (List Bool)) (l : List ℤ) (within : AllWithin 16383 l
       (subst (λ (z : ℤ). z ≤ℤ pos 600000000) g.reached.1.1 (high_whole (kept_count columns 0 t) (outer_start r.0) (walk (outer_edge columns l) outer_next 0 r.0 r.1) k (outer-walk-within t 0 r.0 r.1 g.reached.1.0.0.1) (start_high r.0)))
       (le_trans _ _ _ s.1.1 (g.bound s.0 s.1.0))
 
+  -- a path from a state on that scores no less than this
   abbrev LowPath : ℕ → ℕ → ℕ → Type 0
   LowPath t n p = (us : List ℕ) × (IsPath 2 n us × (negsuc 599999999 ≤ℤ (walk (outer_edge columns l) outer_next t p us +ℤ outer_start (ends outer_next p us))))
 
@@ -190,6 +203,7 @@ module _ (columns : List (List Bool)) (l : List ℤ) (within : AllWithin 16383 l
   part_small : (t n : ℕ) → kept_before columns (t + n) ≤ 15120 → kept_count columns t n ≤ 15120
   part_small t n h = let e = kept-count columns t n in omega arith
 
+  -- and so is that of all paths from a state on
   pub back_fits : (t n p : ℕ) (b : ℤ) → kept_before columns (t + n) ≤ 15120 → p < 4 → Back 2 (outer_edge columns l) outer_next outer_start t n p b → Within 600000000 b
   back_fits t n p b cap low g =
       let k : kept_count columns t n ≤ 15120 = part_small t n cap in

@@ -22,7 +22,7 @@ abbrev pub kept_from : List (List Bool) → ℕ → ℕ → ℕ → List ℕ →
 kept_from columns t a b [] = []
 kept_from columns t a b (x ∷ u) = selected (column columns t) (outputs_after x a b) ++ kept_from columns (t + 1) x a u
 
--- ---- the code bits, from their first on
+-- pieces, the first one first
 joined-first : {X : Type 0} (n : ℕ) (f : ℕ → List X) → joined (suc n) f ≡ f 0 ++ joined n (λ k. f (suc k))
 unfolding joined
 joined-first zero f = sym (append-nil (f 0))
@@ -61,6 +61,7 @@ placed-cons columns t a b x u s =
     ap (λ (k : ℕ). selected (column columns k) (outputs_after (get_or u s 0) (get_or (x ∷ u) s 0) (prior1 a (x ∷ u) s))) (step_on t s)
     ∙ ap₂ (λ (y z : ℕ). selected (column columns (t + 1 + s)) (outputs_after (get_or u s 0) y z)) (prior1-cons a x u s) (prior2-cons a x u s)
 
+-- all steps from step t on
 placed-is : (columns : List (List Bool)) (t a b : ℕ) (u : List ℕ) → joined (length u) (placed columns t a b u) ≡ kept_from columns t a b u
 placed-is columns t a b [] = joined_none (placed columns t a b [])
 placed-is columns t a b (x ∷ u) =
@@ -75,6 +76,7 @@ less_one t = omega arith
 less_two : (t : ℕ) → suc (suc t) - 2 ≡ t
 less_two t = omega arith
 
+-- the input of a step, that before it and that before that
 earlier_here : (u : List ℕ) (t : ℕ) → earlier u t 0 ≡ get_or u t 0
 earlier_here u t =
     let h : 0 ≤ t = omega arith in
@@ -99,6 +101,7 @@ outputs-are u t =
     ap₂ (λ (x b : ℕ). ((x + b) % 2) ∷ ((x + earlier u t 1 + b) % 2) ∷ ((x + earlier u t 1 + b) % 2) ∷ []) (earlier_here u t) (earlier_before u t)
     ∙ ap (λ (a : ℕ). outputs_after (get_or u t 0) a (prior2 0 0 u t)) (earlier_last u t)
 
+-- what a step keeps
 placed_here : (columns : List (List Bool)) (u : List ℕ) (s : ℕ) → kept_at columns u s ≡ placed columns 0 0 0 u s
 placed_here columns u s =
     ap (selected (column columns s)) (outputs-are u s)
@@ -121,6 +124,7 @@ length-kept (false ∷ fs) (x ∷ xs) (y ∷ ys) e = length-kept fs xs ys (omega
 next_before : (columns : List (List Bool)) (t : ℕ) → kept_before columns t + width columns t ≡ kept_before columns (t + 1)
 next_before columns t = ap (kept_before columns) (sym (add-one t))
 
+-- how many are kept from step t on
 length-kept_from : (columns : List (List Bool)) (t a b : ℕ) (u : List ℕ) → kept_before columns t + length (kept_from columns t a b u) ≡ kept_before columns (t + length u)
 length-kept_from columns t a b [] = add-zero (kept_before columns t) ∙ ap (kept_before columns) (sym (add-zero t))
 length-kept_from columns t a b (x ∷ u) =
@@ -142,7 +146,6 @@ kept_total columns n m h =
     let e : length (replicate n 0) ≡ n = length-replicate n 0 in
     h (replicate n 0) e ∙ length-code columns (replicate n 0) ∙ ap (kept_before columns) e
 
--- ---- scores
 assoc_z : (a b c : ℤ) → (a +ℤ b) +ℤ c ≡ a +ℤ (b +ℤ c)
 assoc_z a b c = omega (arith, ints)
 
@@ -167,13 +170,14 @@ chosen-append (z ∷ l) (b ∷ j) k =
     ap (λ (y : ℤ). cond (nat_eq b 1) z (pos 0) +ℤ y) (chosen-append l j k)
     ∙ sym (assoc_z (cond (nat_eq b 1) z (pos 0)) (chosen_sum l j) (chosen_sum (drop (length j) l) k))
 
--- the last input and the one before it, of the next state
+-- the next state has the input, and the last input before it
 pub halves : (x p : ℕ) → p < 4 → (2 * x + p / 2) / 2 ≡ x
 halves x p h = omega arith
 
 pub parity : (x p : ℕ) → p < 4 → (2 * x + p / 2) % 2 ≡ p / 2
 parity x p h = omega arith
 
+-- from step t on
 outer-walk-is : (columns : List (List Bool)) (l : List ℤ) (n t p : ℕ) (us : List ℕ) → p < 4 → IsPath 2 n us
     → chosen_sum (drop (kept_before columns t) l) (kept_from columns t (p / 2) (p % 2) us) ≡ walk (outer_edge columns l) outer_next t p us
 outer-walk-is columns l zero t p [] low h = chosen_none (drop (kept_before columns t) l)

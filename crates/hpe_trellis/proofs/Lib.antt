@@ -1,4 +1,5 @@
 pub mod KeptBits
 pub mod Bounds
 pub mod Runs
-pub mod Steps
+pub mod StepOutputs
+pub mod Recursion

@@ -21,7 +21,6 @@ use Rattle.hpe_trellis.proofs.KeptBits.{length-kept, outer-score-is, kept_from, 
 use Rattle.hpe_trellis.specs.OuterTrellis.{column, width, kept_before, outer_edge, outer_start, OuterRows, OuterBack, IsInformationSoft, IsCodeSoft}
 use Rattle.hpe_trellis.proofs.Bounds.{kept_count, kept-count-all, outer-walk-within, start_cases, zeros-path}
 
--- ---- the class of a stage
 step_on : (t s : ℕ) → t + 1 + s ≡ t + suc s
 step_on t s = omega arith
 
@@ -32,6 +31,7 @@ assoc3 a b c = omega arith
 abbrev pub code_bit : List (List Bool) → ℕ → ℕ → ℕ → ℕ → ℕ
 code_bit columns t i p x = get_or (selected (column columns t) (edge_outputs p x)) i 0
 
+-- it is the bit that is kept there, among those that are kept from step t on
 pub kept-bit : (columns : List (List Bool)) (s n t p i : ℕ) (us : List ℕ) → p < 4 → IsPath 2 n us → s < n → i < width columns (t + s)
     → get_or (kept_from columns t (p / 2) (p % 2) us) (kept_count columns t s + i) 0 ≡ code_bit columns (t + s) i (state_at outer_next p us s) (get_or us s 0)
 kept-bit columns s zero t p i us low h lt li = absurd (omega arith)
@@ -66,7 +66,6 @@ code-bit-is columns n t i us h lt li =
     ∙ kept-bit columns t n 0 0 i us (omega arith) h lt (subst (λ (k : ℕ). i < width columns k) (sym (zero-add t)) li)
     ∙ ap (λ (k : ℕ). code_bit columns k i (state_at outer_next 0 us t) (get_or us t 0)) (zero-add t)
 
--- ---- words and runs
 free-path : (n : ℕ) (w : List ℕ) → IsPath 2 n w → IsPath 2 (n + 2) (w ++ 0 ∷ 0 ∷ [])
 free-path n w h = path-append 2 n 2 w (0 ∷ 0 ∷ []) h (omega arith, (omega arith, tt))
 
@@ -129,12 +128,14 @@ module _ (columns : List (List Bool)) (l : List ℤ) (within : AllWithin 16383 l
   abbrev scored_run : ℕ × List ℕ → ℤ
   scored_run r = (outer_start r.0 +ℤ walk (outer_edge columns l) outer_next 0 r.0 r.1) +ℤ outer_start (ends outer_next r.0 r.1)
 
+  -- the runs that are words' paths
   abbrev Real : ℕ × List ℕ → Type 0
   Real r = (IsRun 2 4 (n + 2) r × Class r) × ((r.0 ≡ 0) × (ends outer_next r.0 r.1 ≡ 0))
 
   walk_small : (p : ℕ) (us : List ℕ) → IsPath 2 (n + 2) us → Within (kept_before columns (n + 2) * 16383) (walk (outer_edge columns l) outer_next 0 p us)
   walk_small p us h = subst (λ (k : ℕ). Within (k * 16383) (walk (outer_edge columns l) outer_next 0 p us)) (kept-count-all columns (n + 2)) (outer-walk-within columns l within (n + 2) 0 p us h)
 
+  -- the others score too little
   real_split : (r : ℕ × List ℕ) → IsRun 2 4 (n + 2) r × Class r → Real r ⊎ (scored_run r ≤ℤ negsuc 250000000)
   real_split r h =
       let w : ℤ = walk (outer_edge columns l) outer_next 0 r.0 r.1 in
@@ -147,20 +148,24 @@ module _ (columns : List (List Bool)) (l : List ℤ) (within : AllWithin 16383 l
       (λ s. inr (subst (λ (i : ℤ). ((i +ℤ w) +ℤ outer_start (ends outer_next r.0 r.1)) ≤ℤ negsuc 250000000) (sym s) (low_start (kept_before columns (n + 2)) w (outer_start (ends outer_next r.0 r.1)) cap k (start_high (ends outer_next r.0 r.1)))))
       (start_cases r.0)
 
+  -- and some word scores more
   sample_high : negsuc 250000000 <ℤ scored_run (0, sample.inputs)
   sample_high =
       subst (λ (q : ℕ). negsuc 250000000 <ℤ ((pos 0 +ℤ walk (outer_edge columns l) outer_next 0 0 sample.inputs) +ℤ outer_start q)) (sym sample.ended)
       (high_real (kept_before columns (n + 2)) (walk (outer_edge columns l) outer_next 0 0 sample.inputs) cap (walk_small 0 sample.inputs sample.path))
 
+  -- so the greatest of all runs is that of the words' paths
   only_real : (z : ℤ) → IsGreatest (λ (r : ℕ × List ℕ). IsRun 2 4 (n + 2) r × Class r) scored_run z → IsGreatest Real scored_run z
   only_real z g = IsGreatest-exclude (negsuc 250000000) real_split (λ r h. h.0) (0, sample.inputs) ((omega arith, sample.path), sample.here) sample_high g
 
+  -- a word scores what its path does
   score_of : (w : List ℕ) → IsPath 2 n w → outer_score columns l w ≡ scored_run (0, w ++ 0 ∷ 0 ∷ [])
   score_of w h =
       outer-score-is columns l (n + 2) (w ++ 0 ∷ 0 ∷ []) (free-path n w h)
       ∙ sym (plain (walk (outer_edge columns l) outer_next 0 0 (w ++ 0 ∷ 0 ∷ [])))
       ∙ ap (λ (q : ℕ). (pos 0 +ℤ walk (outer_edge columns l) outer_next 0 0 (w ++ 0 ∷ 0 ∷ [])) +ℤ outer_start q) (sym (free-ends n w h))
 
+  -- and is the greatest of the words
   words : (z : ℤ) → IsGreatest Real scored_run z → IsGreatest (λ (w : List ℕ). IsPath 2 n w × (asked w ≡ true)) (outer_score columns l) z
   words z g = IsGreatest-carry
       (λ r h.
@@ -177,6 +182,7 @@ module _ (columns : List (List Bool)) (l : List ℤ) (within : AllWithin 16383 l
   outer-top z g = top-is asked (outer_score columns l) n z (words z (only_real z g))
 
   module _ (left : ℕ) (all : t + suc left ≡ n + 2) (rows : List (List ℤ)) (brow : List ℤ) (so_far : OuterRows (n + 2) columns l rows) (later : OuterBack (t + 1) left columns l brow) where
+    -- so a row, the edges of its step and a row from the other side meet in the top
     pub outer-meets : (z : ℤ)
         → IsGreatest (λ (e : ℕ × ℕ). IsEdge 2 4 e × class e.0 e.1) (λ e. number_at (get_or rows t []) e.0 +ℤ (outer_edge columns l t e.0 e.1 +ℤ number_at brow (outer_next e.0 e.1))) z
         → top_from asked (outer_score columns l) n [] ≡ Some z
@@ -185,7 +191,6 @@ module _ (columns : List (List Bool)) (l : List ℤ) (within : AllWithin 16383 l
         (λ p h. so_far.top t p (omega arith) h) later.top z best in
         outer-top z (subst (λ (k : ℕ). IsGreatest (λ (r : ℕ × List ℕ). IsRun 2 4 k r × Class r) scored_run z) all runs)
 
--- ---- samples: one free bit, and zeros
 abbrev unit_run : ℕ → ℕ → ℕ → List ℕ
 unit_run a b c = replicate a 0 ++ b ∷ 0 ∷ 0 ∷ replicate c 0
 
@@ -252,19 +257,23 @@ outputs_first b k h l = three_alike ((b + 0 % 2) % 2) ((b + 0 / 2 + 0 % 2) % 2) 
 outputs_last : (b k : ℕ) → b < 2 → k < 3 → get_or (edge_outputs b 0) k 0 ≡ b
 outputs_last b k h l = three_alike ((0 + b % 2) % 2) ((0 + b / 2 + b % 2) % 2) ((0 + b / 2 + b % 2) % 2) b k (omega arith) (omega arith) (omega arith) l
 
+-- the edges whose kept bit i is b
 abbrev pub CodeClass : List (List Bool) → ℕ → ℕ → ℕ → ℕ → ℕ → Type 0
 CodeClass columns t i b p x = code_bit columns t i p x ≡ b
 
+-- an input b after zeros gives b as each output
 class_first : (columns : List (List Bool)) (t i b : ℕ) → b < 2 → i < width columns t → code_bit columns t i 0 b ≡ b
 class_first columns t i b h li =
     selected-all (column columns t) (edge_outputs 0 b) b i (λ k lt. outputs_first b k h lt)
     (subst (λ (k : ℕ). i < k) (length-kept (column columns t) (0 ∷ 0 ∷ 0 ∷ []) (edge_outputs 0 b) refl) li)
 
+-- and again two steps later
 class_last : (columns : List (List Bool)) (t i b : ℕ) → b < 2 → i < width columns t → code_bit columns t i b 0 ≡ b
 class_last columns t i b h li =
     selected-all (column columns t) (edge_outputs b 0) b i (λ k lt. outputs_last b k h lt)
     (subst (λ (k : ℕ). i < k) (length-kept (column columns t) (0 ∷ 0 ∷ 0 ∷ []) (edge_outputs b 0) refl) li)
 
+-- so there is a word with that bit, for a step with an information bit
 sample_at : (columns : List (List Bool)) (a c n i b : ℕ) → b < 2 → i < width columns a → a + suc (suc (suc c)) ≡ n + 2 → Sample n a (CodeClass columns a i b)
 sample_at columns a c n i b h li e = record {
   inputs = unit_run a b c;
@@ -273,6 +282,7 @@ sample_at columns a c n i b h li e = record {
   here = ap₂ (λ (p x : ℕ). code_bit columns a i p x) (unit-state a b c) (unit-input a b c) ∙ class_first columns a i b h li;
 }
 
+-- for a step two after an information bit
 sample_after : (columns : List (List Bool)) (a c n i b : ℕ) → b < 2 → i < width columns (a + 2) → a + suc (suc (suc c)) ≡ n + 2 → Sample n (a + 2) (CodeClass columns (a + 2) i b)
 sample_after columns a c n i b h li e = record {
   inputs = unit_run a b c;
@@ -281,15 +291,18 @@ sample_after columns a c n i b h li e = record {
   here = ap₂ (λ (p x : ℕ). code_bit columns (a + 2) i p x) (unit-state-2 a b c h) (unit-input-2 a b c h) ∙ class_last columns (a + 2) i b h li;
 }
 
+-- the words whose code bit j is b
 abbrev code_asked : List (List Bool) → ℕ → ℕ → List ℕ → Bool
 code_asked columns j b w = nat_eq (get_or (code_bits columns (w ++ 0 ∷ 0 ∷ [])) j 0) b
 
+-- the words whose information bit j is b
 abbrev info_asked : ℕ → ℕ → List ℕ → Bool
 info_asked j b w = nat_eq (get_or w j 0) b
 
 two_before : (t n : ℕ) → n ≤ t → 2 ≤ n → (t ≡ (t - 2) + 2)
 two_before t n h k = omega arith
 
+-- for each step
 sample_code : (columns : List (List Bool)) (n t i b : ℕ) → 2 ≤ n → b < 2 → t < n + 2 → i < width columns t → Sample n t (CodeClass columns t i b)
 sample_code columns n t i b two h lt li =
     ⊎_elim
@@ -300,6 +313,7 @@ sample_code columns n t i b two h lt li =
     subst (λ (k : ℕ). Sample n k (CodeClass columns k i b)) (sym e) (sample_after columns (t - 2) (n + 1 - t) n i b h li2 (omega arith)))
     (cases_lt t n)
 
+-- there is a word with information bit b
 sample_info : (n t b : ℕ) → b < 2 → t < n → Sample n t (λ (p x : ℕ). x ≡ b)
 sample_info n t b h lt =
     let c : ℕ = n - 1 - t in
@@ -311,11 +325,13 @@ sample_info n t b h lt =
       here = unit-input t b c;
     }
 
+-- a word has the code bit that its edge has
 code_there : (columns : List (List Bool)) (n t i b : ℕ) → t < n + 2 → i < width columns t
     → (w : List ℕ) → IsPath 2 n w → code_asked columns (kept_before columns t + i) b w ≡ true → code_bit columns t i (state_at outer_next 0 (w ++ 0 ∷ 0 ∷ []) t) (get_or (w ++ 0 ∷ 0 ∷ []) t 0) ≡ b
 code_there columns n t i b lt li w h e =
     sym (code-bit-is columns (n + 2) t i (w ++ 0 ∷ 0 ∷ []) (free-path n w h) lt li) ∙ eqb-true (get_or (code_bits columns (w ++ 0 ∷ 0 ∷ [])) (kept_before columns t + i) 0) b e
 
+-- and the other way round
 code_back : (columns : List (List Bool)) (n t i b : ℕ) → t < n + 2 → i < width columns t
     → (w : List ℕ) → IsPath 2 n w → code_bit columns t i (state_at outer_next 0 (w ++ 0 ∷ 0 ∷ []) t) (get_or (w ++ 0 ∷ 0 ∷ []) t 0) ≡ b → code_asked columns (kept_before columns t + i) b w ≡ true
 code_back columns n t i b lt li w h e =
@@ -341,12 +357,12 @@ code-soft : (columns : List (List Bool)) (l : List ℤ) (n i : ℕ) (z one none 
 unfolding code_soft_value
 code-soft columns l n i z one none e a b = record { tops = both_tops (code_top columns l n i) one none a b; value = e ∙ sym (ap₂ difference a b) }
 
--- ---- the soft values where the rows meet
 module _ (columns : List (List Bool)) (l : List ℤ) (within : AllWithin 16383 l) (n t : ℕ) (cap : kept_before columns (n + 2) ≤ 15120)
     (left : ℕ) (all : t + suc left ≡ n + 2) (rows : List (List ℤ)) (brow : List ℤ) (so_far : OuterRows (n + 2) columns l rows) (later : OuterBack (t + 1) left columns l brow) where
   abbrev edge_score : ℕ × ℕ → ℤ
   edge_score e = number_at (get_or rows t []) e.0 +ℤ (outer_edge columns l t e.0 e.1 +ℤ number_at brow (outer_next e.0 e.1))
 
+  -- the top of an information bit
   info_best : (b : ℕ) (z : ℤ) → b < 2 → t < n → IsGreatest (λ (e : ℕ × ℕ). IsEdge 2 4 e × (e.1 ≡ b)) edge_score z → information_top columns l n t b ≡ Some z
   unfolding information_top
   info_best b z h lt best =
@@ -355,10 +371,12 @@ module _ (columns : List (List Bool)) (l : List ℤ) (within : AllWithin 16383 l
       (λ w p e. bit_same (get_or w t 0) b (sym (free_get n t w p lt) ∙ e))
       left all rows brow so_far later z best
 
+  -- the soft value of an information bit
   pub soft-info : (z : ℤ) → t < n → IsSoft (IsEdge 2 4) (λ (e : ℕ × ℕ). e.1) edge_score z → IsInformationSoft columns l n t z
   soft-info z lt g =
       information-soft columns l n t z g.one g.zero g.value (info_best 1 g.one (omega arith) lt g.with_one) (info_best 0 g.zero (omega arith) lt g.with_zero)
 
+  -- the top of a code bit
   code_best : (i b : ℕ) (z : ℤ) → 2 ≤ n → b < 2 → i < width columns t → IsGreatest (λ (e : ℕ × ℕ). IsEdge 2 4 e × (code_bit columns t i e.0 e.1 ≡ b)) edge_score z
       → code_top columns l n (kept_before columns t + i) b ≡ Some z
   unfolding code_top
@@ -368,6 +386,7 @@ module _ (columns : List (List Bool)) (l : List ℤ) (within : AllWithin 16383 l
       (code_there columns n t i b lt li) (code_back columns n t i b lt li)
       left all rows brow so_far later z best
 
+  -- the soft value of a code bit
   pub soft-code : (i : ℕ) (z : ℤ) → 2 ≤ n → i < width columns t → IsSoft (IsEdge 2 4) (λ (e : ℕ × ℕ). code_bit columns t i e.0 e.1) edge_score z → IsCodeSoft columns l n (kept_before columns t + i) z
   soft-code i z two li g =
       code-soft columns l n (kept_before columns t + i) z g.one g.zero g.value (code_best i 1 g.one two (omega arith) li g.with_one) (code_best i 0 g.zero two (omega arith) li g.with_zero)

@@ -4,7 +4,7 @@ use Rattle.hpe_base.specs.Parameters.{flags_set}
 use Rattle.hpe_lane.proofs.OuterFits.{kept_z}
 use Rattle.hpe_trellis.specs.OuterTrellis.{column, width, kept_before, OuterBack, SoftFrom, put_all}
 use Rattle.hpe_trellis.proofs.Bounds.{fore_fits, back_fits}
-use Rattle.hpe_trellis.proofs.Steps.{OuterBack-more, SoftFrom-more, StepIs, step_room, before_cap, before_next, back_place, width_at, step_is, place_back, info-here, code-here}
+use Rattle.hpe_trellis.proofs.Recursion.{OuterBack-more, SoftFrom-more, StepIs, step_room, before_cap, before_next, back_place, width_at, step_is, place_back, info-here, code-here}
 use Rattle.hpe_trellis.proofs.outer.backward_values.Goals as goal
 
 pub overflow_sub-at : goal.overflow_sub-at

@@ -5,7 +5,7 @@ use Rattle.hpe_base.specs.Sizes.{number_at, Within}
 use Rattle.hpe_base.specs.Parameters.{flags_set}
 use Rattle.hpe_trellis.specs.OuterTrellis.{width}
 use Rattle.hpe_trellis.proofs.Bounds.{fore_fits}
-use Rattle.hpe_trellis.proofs.Steps.{OuterRows-first, OuterRows-more, StepIs, first_row, step_room, before_cap, before_next, width_at, step_is, place_on}
+use Rattle.hpe_trellis.proofs.Recursion.{OuterRows-first, OuterRows-more, StepIs, first_row, step_room, before_cap, before_next, width_at, step_is, place_on}
 use Rattle.hpe_trellis.proofs.outer.forward_rows.Goals as goal
 
 pub loop-t-init : goal.loop-t-init

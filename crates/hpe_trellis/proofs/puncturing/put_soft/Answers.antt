@@ -1,7 +1,7 @@
 use Rattle.std.proofs.Common.{rules, ◌≡◌, ◌+◌, ℕ, List, ℤ, pos, cond, get_or, false, Bool, ap, length}
 use Rattle.hpe_base.specs.Sizes.{number_at}
 use Rattle.hpe_lane.proofs.OuterFits.{kept_z}
-use Rattle.hpe_trellis.proofs.Steps.{put-is}
+use Rattle.hpe_trellis.proofs.StepOutputs.{put-is}
 use Rattle.hpe_trellis.proofs.puncturing.put_soft.Goals as goal
 
 pub returns : goal.returns

@@ -1,7 +1,7 @@
 use Rattle.std.proofs.Common.{rules, ◌≡◌, ◌+◌, ℕ, List, ◌∷◌, [], ℤ, pos, cond, get_or, false, Bool, ◌∙◌, ap, length}
 use Rattle.hpe_base.specs.Sizes.{number_at}
 use Rattle.hpe_lane.proofs.OuterFits.{kept_z}
-use Rattle.hpe_trellis.proofs.Steps.{edge-is, taken_is}
+use Rattle.hpe_trellis.proofs.StepOutputs.{edge-is, taken_is}
 use Rattle.hpe_trellis.proofs.puncturing.step_numbers.Goals as goal
 
 pub returns-clause-edge : goal.returns-clause-edge
