@@ -51,7 +51,7 @@ pushed_more c p n symbols bits start now same count list sliced coded =
     record {
       sliced = sliced;
       coded = coded_same c.coder n (word_count c.coder.parameters bits) symbols (words_of c.coder.parameters bits) start now
-      (count ∙ ap (λ q. word_count q bits) (sym same)) (list ∙ ap (λ q. words_of q bits) (sym same)) coded;
+          (count ∙ ap (λ q. word_count q bits) (sym same)) (list ∙ ap (λ q. words_of q bits) (sym same)) coded;
     }
 
 pub pushed_ok : {T E : Type 0} (result : Result T E) (c : Chaining) (p : Parameters) (n : ℕ) (symbols bits : List ℕ) (start now : Option (List ℕ)) → c.coder.parameters ≡ p

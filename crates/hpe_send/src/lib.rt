@@ -9,5 +9,7 @@ mod outbox;
 mod period;
 mod room;
 mod sender;
+#[cfg(test)]
+mod tests;
 
 pub use sender::{SendFault, Sender, Sent};

@@ -35,14 +35,16 @@ loop-taken-preserved g c =
     let all : c.in-Ok.count ≤ c.most_of-most.result = omega (arith, length-take c.most_of-most.result c.loop-taken.buffer, c.take.auto.into) in
     let t = i.1 in
     let whole : c.if-taken-limit.whole ≡ min c.in-Ok.count (c.args.limit - c.loop-taken.taken) =
-    elim c.if-taken-limit.branch [ | then-taken-limit w ↦ omega arith | else-taken-limit w ↦ omega arith ] in
+    elim c.if-taken-limit.branch [ then-taken-limit w ↦ omega arith | else-taken-limit w ↦ omega arith ] in
     let rest : List ℕ = drop c.most_of-most.result c.loop-taken.buffer in
     let piece : take c.if-taken-limit.whole (c.take.new.into ++ rest) ≡ take c.if-taken-limit.whole c.take.new.into =
     take-append-le c.if-taken-limit.whole c.take.new.into rest (omega arith) in (
       h.profile ∙ i.0,
-      (t.0 ++ take c.in-Ok.count c.take.new.into,
+      (
+        t.0 ++ take c.in-Ok.count c.take.new.into,
         taken_more _ _ c.send_piece.new.chain _ _ _ _ _ _ c.args.limit c.loop-taken.taken c.in-Ok.count c.if-taken-limit.whole t.0 _ _ c.take.new.into t.1 k c.loop-taken-test.true whole piece
-        (λ fed start s. h.ok fed start s)),
+            (λ fed start s. h.ok fed start s),
+      ),
       omega (arith, h.cause.later),
       omega (arith, c.in-Ok.ensures.cause.later),
       h.mark ∙ i.4,
@@ -60,7 +62,7 @@ returns-in-Err-send_piece-clause-cut g c = λ start s.
     let all : c.in-Ok.count ≤ c.most_of-most.result = omega (arith, length-take c.most_of-most.result c.loop-taken.buffer, c.take.auto.into) in
     let t = i.1 in
     let whole : c.if-taken-limit.whole ≡ min c.in-Ok.count (c.args.limit - c.loop-taken.taken) =
-    elim c.if-taken-limit.branch [ | then-taken-limit w ↦ omega arith | else-taken-limit w ↦ omega arith ] in
+    elim c.if-taken-limit.branch [ then-taken-limit w ↦ omega arith | else-taken-limit w ↦ omega arith ] in
     let rest : List ℕ = drop c.most_of-most.result c.loop-taken.buffer in
     let piece : take c.if-taken-limit.whole (c.take.new.into ++ rest) ≡ take c.if-taken-limit.whole c.take.new.into =
     take-append-le c.if-taken-limit.whole c.take.new.into rest (omega arith) in (
@@ -68,7 +70,7 @@ returns-in-Err-send_piece-clause-cut g c = λ start s.
       lost_more _ _ _ t.0 c.in-Ok.count _ c.take.new.into t.1.lost k,
       omega (arith, c.most_of-most.ensures.left, count_more _ _ t.0 c.in-Ok.count c.loop-taken.taken _ c.take.new.into t.1.count k),
       taken_cut _ _ c.send_piece.new.chain _ _ _ _ _ _ c.args.limit c.loop-taken.taken c.in-Ok.count c.if-taken-limit.whole t.0 _ _ c.take.new.into t.1 k c.loop-taken-test.true whole piece
-      _ _ start i.0 (h.cut (take c.args.limit t.0) start (t.1.stands start s)),
+          _ _ start i.0 (h.cut (take c.args.limit t.0) start (t.1.stands start s)),
     )
 
 pub returns-in-Err-send_piece-clause-taken : goal.returns-in-Err-send_piece-clause-taken

@@ -12,7 +12,7 @@ loop-symbol-init c = word_none c.args.weaver.now c.args.word.now
 pub loop-symbol-preserved : goal.loop-symbol-preserved
 loop-symbol-preserved c =
     word_more c.args.weaver.now c.loop-symbol.weaver c.push.new.self c.args.word.now c.loop-symbol.word c.loop-symbol.symbol-index c.push.result
-        c.loop-symbol-test.true c.loop-symbol.invariant c.push.ensures.profile c.push.ensures.stands c.push.ensures.answer
+    c.loop-symbol-test.true c.loop-symbol.invariant c.push.ensures.profile c.push.ensures.stands c.push.ensures.answer
 
 pub returns-clause-stands : goal.returns-clause-stands
 returns-clause-stands c = λ pushed h.

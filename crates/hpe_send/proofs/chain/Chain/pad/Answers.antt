@@ -19,7 +19,7 @@ missing p bits = block_bits p.rate - length bits % block_bits p.rate
 
 block : (g : _) (c : goal.After-send_block g) (bits : List ℕ) → HasSliced c.self.inside.slicer bits
     → c.block.result.now ≡ block_from (bits ++ zeros (missing c.self.inside.coder.parameters bits)) (block_bits c.self.inside.coder.parameters.rate)
-        (length (bits ++ zeros (missing c.self.inside.coder.parameters bits)) / block_bits c.self.inside.coder.parameters.rate - 1)
+    (length (bits ++ zeros (missing c.self.inside.coder.parameters bits)) / block_bits c.self.inside.coder.parameters.rate - 1)
 block g c bits was =
     rw (c.pad.ensures.profile, c.self.invariant.slicer) at (c.block.ensures.law (bits ++ zeros (missing c.self.inside.slicer.parameters bits)) (c.pad.ensures.stands bits was c.if-pad.true))
 

@@ -38,10 +38,14 @@ returns-in-Err-clause-cut g c =
     let t = c.in-Ok.ensures.ok _ new in
     let same : c.send_all.new.chain.coder.parameters ≡ c.args.self = c.send_all.ensures.profile ∙ c.self.view_is in
     let words = all_words c.send_all.new.chain c.args.self c.profile.result.now c.args.limit c.in-Ok.octets c.rest-rest.result c.sent_of-sent.result _ _ _ _ t.0
-        same c.profile.ensures t.1 t.2 t.3 c.in-Ok.ensures.within c.sent_of-sent.ensures.frames c.sent_of-sent.ensures.words in
-    let limit : length t.0 ≤ c.args.limit + 1 = omega (arith, t.2, c.in-Ok.ensures.within) in
-    (t.0, t.1.lost, limit, is_cut c.send_all.new.chain c.args.self c.profile.result.now c.args.limit c.in-Ok.octets c.rest-rest.result c.sent_of-sent.result _ _ _ _ t.0
-        same c.profile.ensures t.1 t.2 t.3 c.in-Ok.ensures.within c.sent_of-sent.ensures.frames c.sent_of-sent.ensures.words _ (c.in-Err.ensures.cut t.0 _ t.3 words))
+    same c.profile.ensures t.1 t.2 t.3 c.in-Ok.ensures.within c.sent_of-sent.ensures.frames c.sent_of-sent.ensures.words in
+    let limit : length t.0 ≤ c.args.limit + 1 = omega (arith, t.2, c.in-Ok.ensures.within) in (
+      t.0,
+      t.1.lost,
+      limit,
+      is_cut c.send_all.new.chain c.args.self c.profile.result.now c.args.limit c.in-Ok.octets c.rest-rest.result c.sent_of-sent.result _ _ _ _ t.0
+          same c.profile.ensures t.1 t.2 t.3 c.in-Ok.ensures.within c.sent_of-sent.ensures.frames c.sent_of-sent.ensures.words _ (c.in-Err.ensures.cut t.0 _ t.3 words),
+    )
 
 pub returns-in-Err-clause-grows : goal.returns-in-Err-clause-grows
 returns-in-Err-clause-grows g c = grows_some _ _ _ (returns-in-Err-clause-cut g c).3
@@ -52,10 +56,10 @@ returns-then-rest-eq0-clause-ok g c =
     let t = c.in-Ok.ensures.ok _ new in
     let same : c.send_all.new.chain.coder.parameters ≡ c.args.self = c.send_all.ensures.profile ∙ c.self.view_is in
     let words = all_words c.send_all.new.chain c.args.self c.profile.result.now c.args.limit c.in-Ok.octets c.rest-rest.result c.sent_of-sent.result _ _ _ _ t.0
-        same c.profile.ensures t.1 t.2 t.3 c.in-Ok.ensures.within c.sent_of-sent.ensures.frames c.sent_of-sent.ensures.words in
+    same c.profile.ensures t.1 t.2 t.3 c.in-Ok.ensures.within c.sent_of-sent.ensures.frames c.sent_of-sent.ensures.words in
     let e = is_ended c.send_all.new.chain c.args.self c.profile.result.now c.args.limit c.in-Ok.octets c.rest-rest.result c.sent_of-sent.result _ _ _ _ t.0
-        same c.profile.ensures t.1 t.2 t.3 c.in-Ok.ensures.within c.sent_of-sent.ensures.frames c.sent_of-sent.ensures.words
-        _ (c.rest-rest.ensures t.0 _ _ t.3) (c.in-Ok-finish.ensures.ok t.0 _ t.3 words) in
+    same c.profile.ensures t.1 t.2 t.3 c.in-Ok.ensures.within c.sent_of-sent.ensures.frames c.sent_of-sent.ensures.words
+    _ (c.rest-rest.ensures t.0 _ _ t.3) (c.in-Ok-finish.ensures.ok t.0 _ t.3 words) in
     (t.0, e.sends, sym e.begun ∙ c.if-rest-eq0.true)
 
 pub returns-then-rest-eq0-clause-counts : goal.returns-then-rest-eq0-clause-counts
@@ -74,10 +78,10 @@ returns-clause-ragged g c =
     let t = c.in-Ok.ensures.ok _ new in
     let same : c.send_all.new.chain.coder.parameters ≡ c.args.self = c.send_all.ensures.profile ∙ c.self.view_is in
     let words = all_words c.send_all.new.chain c.args.self c.profile.result.now c.args.limit c.in-Ok.octets c.rest-rest.result c.sent_of-sent.result _ _ _ _ t.0
-        same c.profile.ensures t.1 t.2 t.3 c.in-Ok.ensures.within c.sent_of-sent.ensures.frames c.sent_of-sent.ensures.words in
+    same c.profile.ensures t.1 t.2 t.3 c.in-Ok.ensures.within c.sent_of-sent.ensures.frames c.sent_of-sent.ensures.words in
     let e = is_ended c.send_all.new.chain c.args.self c.profile.result.now c.args.limit c.in-Ok.octets c.rest-rest.result c.sent_of-sent.result _ _ _ _ t.0
-        same c.profile.ensures t.1 t.2 t.3 c.in-Ok.ensures.within c.sent_of-sent.ensures.frames c.sent_of-sent.ensures.words
-        _ (c.rest-rest.ensures t.0 _ _ t.3) (c.in-Ok-finish.ensures.ok t.0 _ t.3 words) in
+    same c.profile.ensures t.1 t.2 t.3 c.in-Ok.ensures.within c.sent_of-sent.ensures.frames c.sent_of-sent.ensures.words
+    _ (c.rest-rest.ensures t.0 _ _ t.3) (c.in-Ok-finish.ensures.ok t.0 _ t.3 words) in
     (t.0, e.sends, e.begun, omega arith)
 
 pub returns-clause-counts : goal.returns-clause-counts
