@@ -1,5 +1,5 @@
 -- Bits and octets that went through the stages of the sender, and the end of a stream.
-use Rattle.std.proofs.Common.{◌≡◌, ◌≢◌, ◌≤◌, ◌<◌, ◌+◌, ◌*◌, ◌/◌, ◌++◌, ◌↔◌, ◌==◌, ℕ, Bool, true, false, List, [], length, Result, Ok, Err, OnOk, OnErr, ap, sym, ◌∙◌, refl, subst, arith, append-nil, inl, inr, if◌then◌else◌}
+use Rattle.std.proofs.Common.{◌≡◌, ◌≢◌, ◌<◌, ◌+◌, ◌*◌, ◌/◌, ◌++◌, ◌↔◌, ◌==◌, ℕ, Bool, true, false, List, [], Result, Ok, Err, OnOk, OnErr, ap, sym, ◌∙◌, refl, subst, arith, append-nil, inl, inr, if◌then◌else◌}
 use Rattle.std.specs.Prelude.{IsTrue}
 use Rattle.std.specs.declared.option.Option.{Option}
 use Rattle.std.specs.Io.KnownBytes.{append_known}

@@ -1,5 +1,5 @@
 -- Codewords that go out one after another.
-use Rattle.std.proofs.Common.{◌≡◌, ◌≤◌, ◌<◌, ◌+◌, ◌*◌, ◌-◌, ◌++◌, ℕ, List, [], length, Result, Ok, Err, OnOk, OnErr, ap, sym, ◌∙◌, arith, length-append, append_assoc, append-nil, take, drop}
+use Rattle.std.proofs.Common.{◌≡◌, ◌<◌, ◌+◌, ◌*◌, ◌-◌, ◌++◌, ℕ, List, [], length, Result, Ok, Err, OnOk, OnErr, ap, sym, ◌∙◌, arith, length-append, append_assoc, append-nil, take, drop}
 use Rattle.std.specs.List.{flat_map}
 use Rattle.std.specs.declared.option.Option.{Option}
 use Rattle.std.proofs.lemmas.List.{replicate-append-replicate, take_at}

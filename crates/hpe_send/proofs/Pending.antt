@@ -5,7 +5,7 @@ use Rattle.std.proofs.lemmas.List.{take-append-le, take_more, take_all, take-app
 use Rattle.std.proofs.lemmas.Grind.{flat_map-append}
 use Rattle.std.specs.declared.option.Option.{Option}
 use Rattle.std.specs.Io.KnownBytes.{append_known}
-use Rattle.hpe_io.specs.Devices.{GrowsByFront, Grows}
+use Rattle.hpe_io.specs.Devices.{GrowsByFront}
 use Rattle.hpe_io.proofs.Known.{append_twice, append_nothing}
 use Rattle.hpe_send.specs.Outgoing.{IsPending}
 use Rattle.hpe_send.proofs.Fronts.{IsFront, front_from}

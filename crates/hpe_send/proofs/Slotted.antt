@@ -5,7 +5,7 @@ use Rattle.hpe_base.specs.Lists.{tabulate}
 use Rattle.hpe_base.specs.Parameters.{Parameters, period_slots, codeword_symbols}
 use Rattle.hpe_base.specs.ChannelInterleaver.{interleaved_channel, channel_at}
 use Rattle.hpe_base.specs.Slots.{slot_at, slots_to}
-use Rattle.hpe_base.proofs.Tabulated.{tabulate-append, tabulate-same, length-tabulate}
+use Rattle.hpe_base.proofs.Tabulated.{tabulate-append, tabulate-same}
 use Rattle.hpe_base.proofs.Channels.{channel_at-front, length-interleaved_channel}
 use Rattle.hpe_base.proofs.Periods.{slot_at-front}
 use Rattle.hpe_send.proofs.Fronts.{IsFront, front_from}

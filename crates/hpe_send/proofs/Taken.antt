@@ -1,12 +1,12 @@
 -- Octets that are taken from the input piece by piece and go through the stages of the sender.
-use Rattle.std.proofs.Common.{◌≡◌, ◌≤◌, ◌<◌, ◌+◌, ◌-◌, ◌++◌, ℕ, List, [], ◌∷◌, length, get_or, take, drop, ap, sym, ◌∙◌, refl, arith, append_assoc, append-nil, length-append, Some, None, min, inl, inr}
+use Rattle.std.proofs.Common.{◌≡◌, ◌≤◌, ◌<◌, ◌+◌, ◌-◌, ◌++◌, ℕ, List, [], ◌∷◌, length, get_or, take, drop, ap, sym, ◌∙◌, refl, arith, append_assoc, length-append, Some, None, min, inl, inr}
 use Rattle.std.proofs.lemmas.List.{take-append-drop, length-take, take-take, take_all, take_at}
 use Rattle.std.proofs.lemmas.Bool.{cases_lt}
 use Rattle.std.specs.declared.option.Option.{Option}
 use Rattle.std.specs.Io.KnownBytes.{prepend_known, append_known, IsAtEnd}
 use Rattle.hpe_base.specs.Parameters.{Parameters, IsValid}
 use Rattle.hpe_base.specs.Frames.{bit_stream}
-use Rattle.hpe_io.specs.Devices.{GrowsByFront, Hands, ReadsAll}
+use Rattle.hpe_io.specs.Devices.{GrowsByFront, Hands}
 use Rattle.hpe_io.proofs.Known.{prepend_twice}
 use Rattle.hpe_send.specs.Chaining.{Chaining, HasTaken}
 use Rattle.hpe_send.specs.Streaming.{bit_slots}

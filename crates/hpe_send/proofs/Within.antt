@@ -1,5 +1,5 @@
 -- Symbols on their way through the channel interleaver stay pulse positions.
-use Rattle.std.proofs.Common.{◌≡◌, ◌≤◌, ◌<◌, ◌+◌, ◌-◌, ◌++◌, ℕ, List, length, get_or, ap, sym, ◌∙◌, refl, arith, All, Bool, true, false, if◌then◌else◌, nat_le, length-append}
+use Rattle.std.proofs.Common.{◌≡◌, ◌<◌, ◌+◌, ◌-◌, ◌++◌, ℕ, List, length, get_or, ap, ◌∙◌, refl, arith, All, Bool, true, false, if◌then◌else◌, nat_le, length-append}
 use Rattle.std.proofs.lemmas.List.{get_or-append_right}
 use Rattle.std.proofs.lemmas.List.Elements.{All-append}
 use Rattle.hpe_base.specs.Parameters.{Parameters, positions}

@@ -1,10 +1,10 @@
 -- The codewords of more and more bits.
-use Rattle.std.proofs.Common.{◌≡◌, ◌≤◌, ◌<◌, ◌+◌, ◌*◌, ◌/◌, ◌%◌, ◌-◌, ◌++◌, ℕ, List, [], ◌∷◌, length, get_or, ap, sym, ◌∙◌, refl, arith, length-append, inl, inr, zero, suc, append_assoc, append-nil, add-zero}
+use Rattle.std.proofs.Common.{◌≡◌, ◌≤◌, ◌<◌, ◌+◌, ◌*◌, ◌/◌, ◌%◌, ◌-◌, ◌++◌, ℕ, List, [], length, get_or, ap, sym, ◌∙◌, refl, arith, length-append, inl, inr, zero, suc, append_assoc, append-nil, add-zero}
 use Rattle.std.proofs.lemmas.Nat.{mul-le, div-add-mod', le-div}
 use Rattle.std.proofs.lemmas.Bool.{cases_lt}
 use Rattle.std.proofs.lemmas.List.{get_or_append_left, get_or-append_right, get_or_past, get_or-replicate, length-replicate}
 use Rattle.hpe_base.specs.Bits.{zeros}
-use Rattle.hpe_base.specs.Lists.{tabulate, joined}
+use Rattle.hpe_base.specs.Lists.{joined}
 use Rattle.hpe_base.specs.Parameters.{Parameters, block_bits, codeword_bits, codeword_symbols, symbol_bits}
 use Rattle.hpe_base.specs.Slicer.{block_from}
 use Rattle.hpe_base.specs.Codeword.{codeword, word_symbols}

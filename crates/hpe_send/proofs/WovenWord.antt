@@ -1,6 +1,6 @@
 -- A word on its way through the weaver.
-use Rattle.std.proofs.Common.{◌≡◌, ◌≤◌, ◌<◌, ◌+◌, ◌++◌, ℕ, List, [], ◌∷◌, length, get_or, take, drop, set, ap, sym, ◌∙◌, refl, arith, append_assoc, append-nil}
-use Rattle.std.proofs.lemmas.List.{take_more, take_more_set, get_or-set_other, drop-set-lt, get_or-drop, take_all, drop-drop, length-set}
+use Rattle.std.proofs.Common.{◌≡◌, ◌<◌, ◌+◌, ◌++◌, ℕ, List, [], ◌∷◌, length, get_or, take, drop, set, ap, sym, ◌∙◌, refl, arith, append_assoc, append-nil}
+use Rattle.std.proofs.lemmas.List.{take_more, take_more_set, drop-set-lt, get_or-drop, drop-drop, length-set}
 use Rattle.hpe_base.specs.Parameters.{Parameters}
 use Rattle.hpe_base.specs.ChannelInterleaver.{interleaved_channel}
 use Rattle.hpe_weave.specs.Weaving.{Weaving, HasWoven}

@@ -1,4 +1,4 @@
-use Rattle.std.proofs.Common.{◌≡◌, ◌≤◌, ◌<◌, ◌∙◌, ◌++◌, ◌+◌, ◌-◌, ap, sym, arith, take, drop, length, ℕ, List, [], min}
+use Rattle.std.proofs.Common.{◌≡◌, ◌≤◌, ◌∙◌, ◌++◌, ◌-◌, ap, sym, arith, take, drop, length, ℕ, List, min}
 use Rattle.std.proofs.lemmas.List.{take-append-le, length-take, take_all}
 use Rattle.std.specs.Io.KnownBytes.{prepend_known}
 use Rattle.hpe_send.proofs.Taken.{hands_end, lost_more, count_more, taken_more, taken_cut, taken-grows}

@@ -1,5 +1,4 @@
-use Rattle.std.proofs.Common.{◌≡◌, ◌≤◌, ◌-◌, ◌+◌, ℕ, List, [], length}
-use Rattle.hpe_send.specs.Chaining.{HasTaken}
+use Rattle.std.proofs.Common.{◌≡◌, ◌≤◌, ◌-◌, ◌+◌, ℕ, List}
 use Rattle.hpe_send.proofs.Taken.{IsTaken}
 use Rattle.hpe_send.proofs.drive.send_all.Given as goal
 

@@ -1,4 +1,4 @@
-use Rattle.std.proofs.Common.{◌≡◌, ◌++◌, ℕ, List, arith, length}
+use Rattle.std.proofs.Common.{◌≡◌, ◌++◌, ℕ, List, arith}
 use Rattle.std.proofs.lemmas.List.{take_all}
 use Rattle.hpe_base.specs.ChannelInterleaver.{interleaved_channel}
 use Rattle.hpe_weave.specs.Weaving.{HasWoven}

@@ -1,4 +1,4 @@
-use Rattle.std.proofs.Common.{◌≡◌, ◌<◌, ◌+◌, ◌*◌, ◌++◌, ◌∙◌, ap, sym, List, ℕ, [], ◌∷◌, refl, arith, length, if◌then◌else◌, ◌==◌}
+use Rattle.std.proofs.Common.{◌≡◌, ◌∙◌, ap, refl, if◌then◌else◌, ◌==◌}
 use Rattle.hpe_base.specs.Parameters.{Parameters}
 use Rattle.hpe_base.specs.Slots.{flush_words}
 use Rattle.hpe_send.specs.Chaining.{Chaining}

@@ -1,4 +1,4 @@
-use Rattle.std.proofs.Common.{◌≡◌, ◌≢◌, ◌<◌, ◌+◌, ◌-◌, ◌/◌, ◌%◌, ◌++◌, ◌∙◌, ap, sym, subst, List, ℕ, [], ◌∷◌, refl, arith, length}
+use Rattle.std.proofs.Common.{◌≡◌, ◌≢◌, ◌<◌, ◌+◌, ◌-◌, ◌/◌, ◌%◌, ◌++◌, ◌∙◌, ap, sym, subst, List, ℕ, [], ◌∷◌, refl, length}
 use Rattle.std.specs.declared.option.Option.{Option}
 use Rattle.hpe_base.specs.Parameters.{Parameters}
 use Rattle.hpe_base.specs.Frames.{bit_stream, frame_bits}

@@ -1,4 +1,4 @@
-use Rattle.std.proofs.Common.{◌≡◌, ◌<◌, ◌+◌, ◌*◌, ◌++◌, ◌∙◌, ap, sym, List, ℕ, [], ◌∷◌, refl, arith, length, get_or, take}
+use Rattle.std.proofs.Common.{◌≡◌, ◌++◌, ◌∙◌, ap, List, ℕ, arith, get_or, take}
 use Rattle.std.proofs.lemmas.List.{take_all}
 use Rattle.hpe_frame.specs.Feeding.{Feeding, marked}
 use Rattle.hpe_send.specs.Chaining.{Chaining}

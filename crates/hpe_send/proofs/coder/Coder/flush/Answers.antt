@@ -1,6 +1,5 @@
-use Rattle.std.proofs.Common.{◌≡◌, ◌++◌, ◌+◌, ◌*◌, ◌∙◌, ap, sym, List, ℕ, refl, arith}
-use Rattle.hpe_base.specs.Bits.{zeros}
-use Rattle.hpe_base.specs.Parameters.{Parameters, codeword_symbols}
+use Rattle.std.proofs.Common.{◌≡◌, ◌+◌, ◌∙◌, refl, arith}
+use Rattle.hpe_base.specs.Parameters.{codeword_symbols}
 use Rattle.hpe_send.proofs.Coded.{coded_same, zeros-more, zeros-none, flush_cut}
 use Rattle.hpe_send.proofs.coder.Coder.flush.Goals as goal
 

@@ -1,4 +1,4 @@
-use Rattle.std.proofs.Common.{◌≡◌, ◌++◌, ◌∙◌, ap, sym, List, ℕ, [], refl, arith}
+use Rattle.std.proofs.Common.{◌∙◌, ap, sym, [], arith}
 use Rattle.hpe_base.specs.Parameters.{Parameters, codeword_symbols}
 use Rattle.hpe_send.proofs.Coded.{coded_none}
 use Rattle.hpe_send.proofs.coder.Coder.new.Goals as goal

@@ -1,4 +1,4 @@
-use Rattle.std.proofs.Common.{◌≡◌, ◌++◌, ◌∙◌, ap, sym, List, ℕ, refl, take, drop, length}
+use Rattle.std.proofs.Common.{◌≡◌, ◌++◌, ◌∙◌, refl, take, drop, length}
 use Rattle.hpe_base.specs.Codeword.{codeword}
 use Rattle.hpe_send.specs.CoderView.{coding}
 use Rattle.hpe_send.proofs.Coded.{coded_word, put_back}

@@ -1,7 +1,5 @@
-use Rattle.std.proofs.Common.{◌≡◌, ◌≤◌, ◌+◌, ◌∙◌, ap, sym, refl, arith, take, length, ℕ, List}
-use Rattle.hpe_base.specs.Parameters.{Parameters}
+use Rattle.std.proofs.Common.{◌≡◌, ◌≤◌, ◌+◌, ◌∙◌, sym, arith, take, length}
 use Rattle.hpe_base.specs.Slots.{slots_of}
-use Rattle.hpe_send.specs.Chaining.{Chaining}
 use Rattle.hpe_send.proofs.Ended.{grows_some, cut_slots, counts_are, all_words, is_ended, is_cut}
 use Rattle.hpe_send.proofs.sender.Sender.send.Goals as goal
 
