@@ -1,0 +1,54 @@
+-- Clamped numbers, and the forms in which machine numbers hold them.
+use Rattle.std.proofs.Common.{◌≡◌, ◌<◌, ℕ, zero, suc, ℤ, pos, negsuc, ◌-ℤ◌, List, [], ◌∷◌, length, sym, ◌∙◌, ap, ap₂, subst, refl, arith, w32, to_z, of_z, replicate}
+use Rattle.std.specs.Prelude.{min}
+use Rattle.std.specs.Int.{saturate_signed}
+use Rattle.std.proofs.lemmas.Int.{ints, clamps}
+use mir.Syntax.{w16}
+use Rattle.hpe_base.specs.Lists.{tabulate}
+use Rattle.hpe_base.specs.Sizes.{number_at, Within, AllWithin}
+use Rattle.hpe_base.specs.SoftValues.{clamped}
+use Rattle.hpe_base.proofs.Tabulated.{length-tabulate, get_or-tabulate}
+
+pub clamped_within : (v : ℤ) → Within 16383 (clamped v)
+clamped_within v = (omega (arith, ints, clamps), omega (arith, ints, clamps))
+
+-- a list whose places are within bounds
+pub within_places : (xs : List ℤ) → ((i : ℕ) → i < length xs → Within 16383 (number_at xs i)) → AllWithin 16383 xs
+within_places [] f i = (omega (arith, ints), omega (arith, ints))
+within_places (x ∷ xs) f zero = f 0 (omega arith)
+within_places (x ∷ xs) f (suc i) = within_places xs (λ k h. f (suc k) (omega arith)) i
+
+pub clamped_places : (n : ℕ) (v : ℕ → ℤ) → AllWithin 16383 (tabulate n (λ i. clamped (v i)))
+clamped_places n v =
+    within_places (tabulate n (λ i. clamped (v i))) (λ i h.
+    let below : i < n = omega (arith, length-tabulate n (λ i. clamped (v i))) in
+    subst (Within 16383) (sym (get_or-tabulate n (λ i. clamped (v i)) i (pos 0) below)) (clamped_within (v i)))
+
+pub zeros_within : (n : ℕ) → AllWithin 16383 (replicate n (pos 0))
+zeros_within zero i = (omega (arith, ints), omega (arith, ints))
+zeros_within (suc n) zero = (omega (arith, ints), omega (arith, ints))
+zeros_within (suc n) (suc i) = zeros_within n i
+
+-- a clamped number stands in an i16 as it is
+pub clamped_kept : (v r : ℤ) → r ≡ clamped v → to_z w16 (of_z w16 (to_z w32 (of_z w32 r))) ≡ clamped v
+clamped_kept v r e =
+    let w = clamped_within v in
+    ap (λ (z : ℤ). to_z w16 (of_z w16 (to_z w32 (of_z w32 z)))) e ∙ omega (arith, ints, w)
+
+saturated_high : (n k : ℕ) → k ≡ min n 2147483647 → clamped (to_z w32 (of_z w32 (pos k))) ≡ clamped (pos n)
+saturated_high n k e = omega (arith, ints, clamps)
+
+saturated_low : (n k : ℕ) → k ≡ min n 2147483647 → clamped (to_z w32 (of_z w32 (negsuc k))) ≡ clamped (negsuc n)
+saturated_low n k e = omega (arith, ints, clamps)
+
+saturated : (z : ℤ) → clamped (to_z w32 (of_z w32 (saturate_signed w32 z))) ≡ clamped z
+saturated (pos n) = saturated_high n (min n 2147483647) refl
+saturated (negsuc n) = saturated_low n (min n 2147483647) refl
+
+-- a difference that saturates clamps to the same
+pub saturated_clamped : (a b s : ℤ) → to_z w32 (of_z w32 a) ≡ a → to_z w32 (of_z w32 b) ≡ b
+    → s ≡ saturate_signed w32 (to_z w32 (of_z w32 a) -ℤ to_z w32 (of_z w32 b)) → clamped (to_z w32 (of_z w32 s)) ≡ clamped (a -ℤ b)
+saturated_clamped a b s ea eb e =
+    ap (λ (z : ℤ). clamped (to_z w32 (of_z w32 z))) e
+    ∙ saturated (to_z w32 (of_z w32 a) -ℤ to_z w32 (of_z w32 b))
+    ∙ ap₂ (λ (x y : ℤ). clamped (x -ℤ y)) ea eb

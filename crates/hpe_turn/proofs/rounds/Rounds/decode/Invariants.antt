@@ -1,0 +1,14 @@
+use Rattle.std.proofs.Common.{◌≡◌, ◌+◌, ◌*◌, ◌≤◌}
+use Rattle.hpe_base.specs.Sizes.{AllWithin}
+use Rattle.hpe_base.specs.Parameters.{codeword_symbols, code_steps}
+use Rattle.hpe_turn.proofs.FirstRight.{HasGone}
+use Rattle.hpe_turn.proofs.rounds.Rounds.decode.Given as goal
+
+abbrev pub invariant-loop-before : goal.invariant-loop-before
+invariant-loop-before g l = record {
+  profile : l.self.profile ≡ l.fn.self.profile;
+  gone : HasGone l.fn.self.profile l.counts l.before l.self.inner_numbers.items;
+  small : AllWithin 16383 l.self.inner_numbers.items;
+  block : l.block ≡ l.fn.block;
+  cost : l.steps ≤ l.fn.steps + l.before * (3 * (codeword_symbols l.fn.self.profile.order + code_steps l.fn.self.profile.rate));
+}

@@ -1,0 +1,15 @@
+-- The lengths of the lists that the rounds work on.
+use Rattle.std.specs.Prelude.{◌≡◌, ℕ, ◌+◌, List, ℤ, length}
+use Rattle.hpe_base.specs.Parameters.{Parameters, codeword_symbols, codeword_bits, code_steps}
+use Rattle.hpe_base.specs.Rounds.{information_bits}
+
+pub record HasRoom (p : Parameters) (inner_numbers : List ℤ) (inner_rows : List (List ℤ)) (outer_numbers : List ℤ) (outer_rows : List (List ℤ)) (soft extrinsic moved information : List ℤ) (hard : List ℕ) : Type 0 where
+  pub long_inner_numbers : length inner_numbers ≡ codeword_bits
+  pub long_inner_rows : length inner_rows ≡ codeword_symbols p.order + 1
+  pub long_outer_numbers : length outer_numbers ≡ codeword_bits
+  pub long_outer_rows : length outer_rows ≡ code_steps p.rate + 1
+  pub long_soft : length soft ≡ codeword_bits
+  pub long_extrinsic : length extrinsic ≡ codeword_bits
+  pub long_moved : length moved ≡ codeword_bits
+  pub long_information : length information ≡ information_bits p.rate
+  pub long_hard : length hard ≡ information_bits p.rate
