@@ -1,5 +1,2 @@
-pub mod Taking
-pub mod Streams
-pub mod OneRow
-pub mod Codewords
-pub mod Pending
+pub mod Counting
+pub mod SentLine

@@ -1,122 +1,110 @@
-// The encoder: from the octets of transfer frames to slots.
+// The action `encode`: transfer frames to slots, and a line on what was sent.
 
-ghost use Rattle.std.specs.Prelude.{◌≡◌, ◌≤◌, ◌<◌, ◌+◌, ◌%◌, ◌^◌, ℕ, List, length, OnOk, IsErrOf};
+ghost use Rattle.std.specs.Prelude.{◌≡◌, ◌≢◌, ◌≤◌, ◌<◌, ◌+◌, ◌*◌, ◌%◌, ◌^◌, ℕ, List, length, IsTrue};
 ghost use Rattle.std.specs.Io.KnownBytes.{append_known};
-ghost use Rattle.hpe_base.specs.Slots.{slots_of};
-ghost use Rattle.hpe_io.specs.Devices.{Rose, TakesCount, TakesAtMost, Grows};
-ghost use Rattle.hpe_cmd.specs.Encoding.{Encodes};
+ghost use Rattle.hpe_base.specs.Parameters.{period_slots};
+ghost use Rattle.hpe_base.specs.Slots.{flush_words};
+ghost use Rattle.hpe_io.specs.Devices.{Rose, TakesCount, TakesAtMost, GrowsByFront, Grows};
+ghost use Rattle.hpe_cmd.specs.Encoding.{Encodes, CutsOff, encode_line, sent_line, sent_slots};
+ghost use Rattle.hpe_cmd.specs.Statuses.{status_of, is_cut};
 
-use crate::outbox::Outbox;
-use crate::reading::{Unread, read_all};
-use crate::sending::send_stream;
-use crate::stream::block_stream;
-use hpe_base::Profile;
-use hpe_code::CodeTables;
+use crate::ending::Ending;
+use crate::line::{Line, push_entry};
+use hpe_base::{Profile, geometry};
 use hpe_io::{Sink, Source};
+use hpe_send::{SendFault, Sender, Sent};
 use std::alloc::Global;
 
 /// The most octets of frames that are encoded.
-pub const LIMIT: usize = 1_048_576;
+pub const LIMIT: u64 = 1 << 40;
 
-/// Why slots were not sent.
-#[derive(Clone, Copy, Debug, PartialEq, Eq)]
-enum Unsent {
-    /// There was no memory, and nothing was put.
-    NoMemory,
-    /// The output failed.
-    Failed,
-}
-
-/// Sends the slots of the whole frames in the octets.
-fn send_frames<O: Sink>(
-    alloc: Global,
-    p: &Profile,
-    octets: &[u8],
-    output: &mut O,
-) -> Result<(), Unsent>
-    requires rows { p.now.rows ≡ 1 }
-    requires size { length octets.now < 2 ^ 40 }
-    ensures slots { OnOk result (O.written output.new ≡ append_known (O.written output.old) (slots_of p.now octets.now)) }
-    ensures memory { IsErrOf result Unsent.NoMemory → output.new ≡ output.old }
-    ensures failed { IsErrOf result Unsent.Failed → Rose (O.faults output.old) (O.faults output.new) }
-    ensures grows { Grows (O.written output.old) (O.written output.new) }
-    ensures later { O.faults output.old ≤ O.faults output.new }
-    ensures mark { O.mark output.new ≡ O.mark output.old }
+/// The slots of so many codewords with those that flush the channel interleaver.
+fn sent_slots(p: &Profile, words: u64) -> u64
+    requires { words ≤ 2 ^ 34 }
+    ensures { result ≡ sent_slots p.now words }
 {
-    let Ok(stream) = block_stream(alloc, p, octets) else {
-        return Err(Unsent::NoMemory);
-    };
-    let Ok(tables) = CodeTables::new(alloc) else {
-        return Err(Unsent::NoMemory);
-    };
-    let Ok(mut outbox) = Outbox::new(alloc) else {
-        return Err(Unsent::NoMemory);
-    };
-    match send_stream(&tables, p, &stream, &mut outbox, output) {
-        Ok(()) => {}
-        Err(_) => return Err(Unsent::Failed),
+    if words == 0 {
+        return 0;
     }
-    match outbox.flush(output) {
-        Ok(()) => Ok(()),
-        Err(_) => Err(Unsent::Failed),
+    let measures = geometry(p);
+    (words + measures.flush as u64) * measures.period as u64
+}
+
+/// The line on what was sent, with its line feed.
+fn sent_line(p: &Profile, sent: &Sent) -> Line
+    requires { sent.now.words ≤ 2 ^ 34 }
+    ensures text { result.bytes ≡ sent_line sent.now.frames sent.now.words (sent_slots p.now sent.now.words) }
+    ensures some { 0 < length result.bytes }
+{
+    let mut line = Line::new();
+    push_entry(&mut line, "frames ", sent.frames);
+    push_entry(&mut line, " words ", sent.words);
+    push_entry(&mut line, " slots ", sent_slots(p, sent.words));
+    line.push_str("\n");
+    line
+}
+
+/// Puts the line on what was sent.
+fn report_sent<R: Sink>(p: &Profile, sent: &Sent, report: &mut R) -> Ending
+    requires { sent.now.words ≤ 2 ^ 34 }
+    ensures done { result ≡ Ending.Done → R.written report.new
+        ≡ append_known (R.written report.old) (sent_line sent.now.frames sent.now.words (sent_slots p.now sent.now.words)) }
+    ensures cut { result ≢ Ending.Done → (result ≡ Ending.ReportFault) × Rose (R.faults report.old) (R.faults report.new)
+        × GrowsByFront (R.written report.old) (R.written report.new) (sent_line sent.now.frames sent.now.words (sent_slots p.now sent.now.words)) }
+    ensures later { R.faults report.old ≤ R.faults report.new }
+    ensures mark { R.mark report.new ≡ R.mark report.old }
+{
+    match report.put(sent_line(p, sent).as_bytes()) {
+        Ok(()) => Ending::Done,
+        Err(_) => Ending::ReportFault,
     }
 }
 
-/// Why an encoding was not done.
-#[derive(Clone, Copy, Debug, PartialEq, Eq)]
-pub enum EncodeFault {
-    /// There was no memory, and nothing was put.
-    NoMemory,
-    /// The input failed.
-    Read,
-    /// The output failed.
-    Write,
-    /// The input has more octets than the limit.
-    TooLong,
-    /// The input does not end with a whole frame. The whole frames are encoded.
-    Ragged,
-}
-
-/// Encodes the whole frames of the input, for a channel interleaver of one row.
-pub fn encode<I: Source, O: Sink>(
+/// Encodes the whole frames of the input, and puts a line on them where nothing is left over.
+pub fn encode<I: Source, O: Sink, R: Sink>(
     alloc: Global,
     p: &Profile,
     input: &mut I,
     output: &mut O,
-) -> Result<(), EncodeFault>
-    requires { p.now.rows ≡ 1 }
-    ensures done { OnOk result ((octets : List ℕ)
+    report: &mut R,
+) -> Ending
+    ensures done { result ≡ Ending.Done → (octets : List ℕ)
         × Encodes p.now LIMIT (I.left input.old) (I.left input.new) (O.written output.old) (O.written output.new) octets
-        × (length octets % p.now.frame_octets ≡ 0)) }
-    ensures ragged { IsErrOf result EncodeFault.Ragged → (octets : List ℕ)
+        × (length octets % p.now.frame_octets ≡ 0)
+        × (R.written report.new ≡ append_known (R.written report.old) (encode_line p.now octets)) }
+    ensures unreported { result ≡ Ending.ReportFault → (octets : List ℕ)
         × Encodes p.now LIMIT (I.left input.old) (I.left input.new) (O.written output.old) (O.written output.new) octets
-        × (0 < length octets % p.now.frame_octets) }
-    ensures long { IsErrOf result EncodeFault.TooLong → TakesCount (I.left input.old) (I.left input.new) (LIMIT + 1) }
-    ensures read { IsErrOf result EncodeFault.Read → Rose (I.faults input.old) (I.faults input.new) }
-    ensures write { IsErrOf result EncodeFault.Write → Rose (O.faults output.old) (O.faults output.new) }
-    ensures memory { IsErrOf result EncodeFault.NoMemory → output.new ≡ output.old }
+        × (length octets % p.now.frame_octets ≡ 0)
+        × GrowsByFront (R.written report.old) (R.written report.new) (encode_line p.now octets) }
+    ensures ragged { (rest : ℕ) → result ≡ Ending.Ragged rest → (octets : List ℕ)
+        × Encodes p.now LIMIT (I.left input.old) (I.left input.new) (O.written output.old) (O.written output.new) octets
+        × (rest ≡ length octets % p.now.frame_octets) × (0 < rest) }
+    ensures cut { IsTrue (is_cut (status_of result)) → CutsOff p.now LIMIT (I.left input.old) (I.left input.new) (O.written output.old) (O.written output.new) }
+    ensures long { result ≡ Ending.TooLong → TakesCount (I.left input.old) (I.left input.new) (LIMIT + 1) }
+    ensures read { result ≡ Ending.ReadFault → Rose (I.faults input.old) (I.faults input.new) }
+    ensures write { result ≡ Ending.WriteFault → Rose (O.faults output.old) (O.faults output.new) }
+    ensures report { result ≡ Ending.ReportFault → Rose (R.faults report.old) (R.faults report.new) }
+    ensures memory { result ≡ Ending.NoMemory → (output.new ≡ output.old) × (input.new ≡ input.old) }
+    ensures usage { result ≢ Ending.Usage }
+    ensures silent { result ≢ Ending.Done → result ≢ Ending.ReportFault → report.new ≡ report.old }
     ensures taken { TakesAtMost (I.left input.old) (I.left input.new) (LIMIT + 1) }
     ensures grows { Grows (O.written output.old) (O.written output.new) }
     ensures input_later { I.faults input.old ≤ I.faults input.new }
     ensures output_later { O.faults output.old ≤ O.faults output.new }
+    ensures report_later { R.faults report.old ≤ R.faults report.new }
     ensures input_mark { I.mark input.new ≡ I.mark input.old }
     ensures output_mark { O.mark output.new ≡ O.mark output.old }
+    ensures report_mark { R.mark report.new ≡ R.mark report.old }
     ensures build { I.build input.new ≡ I.build input.old }
 {
-    let octets = match read_all(alloc, LIMIT, input) {
-        Ok(octets) => octets,
-        Err(Unread::NoMemory) => return Err(EncodeFault::NoMemory),
-        Err(Unread::Failed) => return Err(EncodeFault::Read),
-        Err(Unread::TooLong) => return Err(EncodeFault::TooLong),
+    let Ok(sender) = Sender::new(alloc, p) else {
+        return Ending::NoMemory;
     };
-    match send_frames(alloc, p, &octets, output) {
-        Ok(()) => {}
-        Err(Unsent::NoMemory) => return Err(EncodeFault::NoMemory),
-        Err(Unsent::Failed) => return Err(EncodeFault::Write),
-    }
-    if octets.len() % p.frame_octets() == 0 {
-        Ok(())
-    } else {
-        Err(EncodeFault::Ragged)
+    match sender.send(LIMIT, input, output) {
+        Ok(sent) => report_sent(p, &sent, report),
+        Err(SendFault::Read) => Ending::ReadFault,
+        Err(SendFault::Write) => Ending::WriteFault,
+        Err(SendFault::TooLong) => Ending::TooLong,
+        Err(SendFault::Ragged { rest, .. }) => Ending::Ragged { rest },
     }
 }

@@ -26,16 +26,16 @@ fn geometry_line(p: &Profile) -> Line
 {
     let measures = geometry(p);
     let mut line = Line::new();
-    push_entry(&mut line, "order ", p.order().slots());
+    push_entry(&mut line, "order ", p.order().slots() as u64);
     line.push_str(" rate ");
     line.push_str(rate_text(p.rate()));
-    push_entry(&mut line, " steps ", measures.steps);
-    push_entry(&mut line, " block ", measures.block);
-    push_entry(&mut line, " symbols ", measures.symbols);
-    push_entry(&mut line, " marker ", p.marker().len());
-    push_entry(&mut line, " period ", measures.period);
-    push_entry(&mut line, " depth ", measures.depth);
-    push_entry(&mut line, " flush ", measures.flush);
+    push_entry(&mut line, " steps ", measures.steps as u64);
+    push_entry(&mut line, " block ", measures.block as u64);
+    push_entry(&mut line, " symbols ", measures.symbols as u64);
+    push_entry(&mut line, " marker ", p.marker().len() as u64);
+    push_entry(&mut line, " period ", measures.period as u64);
+    push_entry(&mut line, " depth ", measures.depth as u64);
+    push_entry(&mut line, " flush ", measures.flush as u64);
     line.push_str("\n");
     line
 }

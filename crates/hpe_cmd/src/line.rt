@@ -13,7 +13,7 @@ const DIGITS: usize = 20;
 pub type Line = ArrayString<ROOM>;
 
 /// Appends a name, with what separates it from its number, and the number in decimal digits.
-pub fn push_entry(line: &mut Line, name: &str, number: usize)
+pub fn push_entry(line: &mut Line, name: &str, number: u64)
     requires { length line.old.bytes + length name.now + DIGITS ≤ ROOM }
     ensures text { line.new.bytes ≡ line.old.bytes ++ name.now ++ decimal number }
     ensures size { length line.new.bytes ≤ length line.old.bytes + length name.now + DIGITS }

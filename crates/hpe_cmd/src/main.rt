@@ -2,18 +2,16 @@
 #![tactic(auto)]
 
 mod encode;
+mod ending;
 mod geometry;
 mod line;
-mod outbox;
-mod reading;
 mod run;
-mod sending;
-mod stream;
 #[cfg(test)]
 mod tests;
 mod words;
 
-use crate::run::{Status, run};
+use crate::ending::Status;
+use crate::run::run;
 use hpe_io::{OsSink, OsSource};
 use std::env;
 use std::io::ErrorKind;

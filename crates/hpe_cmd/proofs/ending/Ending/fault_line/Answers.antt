@@ -1,0 +1,15 @@
+use Rattle.std.proofs.Common.{refl, ◌∙◌, sym, ap}
+use Rattle.hpe_cmd.specs.FaultLines.{fault_line, limit_line, ragged_line}
+use Rattle.hpe_cmd.proofs.ending.Ending.fault_line.Goals as goal
+use Rattle.hpe_cmd.proofs.ending.Ending.fault_line.Goals.{in-Usage, in-ReadFault, in-WriteFault, in-NoMemory, in-TooLong, in-Ragged}
+
+pub returns : goal.returns
+unfolding limit_line ragged_line
+returns c = elim c.match-self.branch [
+  | in-Usage w ↦ rw (w.in-Usage.is, c.push_str-2.ensures.bytes, w.line-is, w.push_str.ensures.bytes, c.new-line.ensures) refl
+  | in-ReadFault w ↦ rw (w.in-ReadFault.is, c.push_str-2.ensures.bytes, w.line-is, w.push_str-in-ReadFault.ensures.bytes, c.new-line.ensures) refl
+  | in-WriteFault w ↦ rw (w.in-WriteFault.is, c.push_str-2.ensures.bytes, w.line-is, w.push_str-in-WriteFault.ensures.bytes, c.new-line.ensures) refl
+  | in-NoMemory w ↦ rw (w.in-NoMemory.is, c.push_str-2.ensures.bytes, w.line-is, w.push_str-in-NoMemory.ensures.bytes, c.new-line.ensures) refl
+  | in-TooLong w ↦ rw (w.in-TooLong.is, c.push_str-2.ensures.bytes, w.line-is, w.push_entry.ensures.text, c.new-line.ensures) refl
+  | in-Ragged w ↦ rw (w.in-Ragged.is, c.push_str-2.ensures.bytes, w.line-is, w.push_entry-in-Ragged.ensures.text, c.new-line.ensures) refl
+]
