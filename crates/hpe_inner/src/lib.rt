@@ -9,5 +9,7 @@
 mod backward;
 mod forward;
 mod soft;
+#[cfg(test)]
+mod tests;
 
 pub use soft::{inner_rows, inner_soft};
