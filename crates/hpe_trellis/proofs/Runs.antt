@@ -390,12 +390,3 @@ module _ (columns : List (List Bool)) (l : List ℤ) (within : AllWithin 16383 l
   pub soft-code : (i : ℕ) (z : ℤ) → 2 ≤ n → i < width columns t → IsSoft (IsEdge 2 4) (λ (e : ℕ × ℕ). code_bit columns t i e.0 e.1) edge_score z → IsCodeSoft columns l n (kept_before columns t + i) z
   soft-code i z two li g =
       code-soft columns l n (kept_before columns t + i) z g.one g.zero g.value (code_best i 1 g.one two (omega arith) li g.with_one) (code_best i 0 g.zero two (omega arith) li g.with_zero)
-
--- every kept bit has its step
-pub find_step : (columns : List (List Bool)) (n j : ℕ) → j < kept_before columns n → (t : ℕ) × ((i : ℕ) × ((t < n) × (i < width columns t) × (j ≡ kept_before columns t + i)))
-find_step columns zero j h = absurd (omega arith)
-find_step columns (suc n) j h =
-    ⊎_elim
-    (λ (s : j < kept_before columns n). let f = find_step columns n j s in (f.0, (f.1.0, (omega (arith, f.1.1.0), f.1.1.1, f.1.1.2))))
-    (λ (s : kept_before columns n ≤ j). (n, (j - kept_before columns n, (omega arith, omega arith, omega arith))))
-    (cases_lt j (kept_before columns n))
