@@ -1,5 +1,4 @@
 pub mod ChosenSums
-pub mod SameScores
 pub mod OuterEdges
 pub mod OuterFits
 pub mod Parities

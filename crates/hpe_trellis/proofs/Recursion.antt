@@ -14,7 +14,7 @@ use Rattle.hpe_base.specs.ConvolutionalCode.{selected}
 use Rattle.hpe_lane.specs.OuterStage.{edge_outputs, outer_next, edge_sum, soft_bit}
 use Rattle.hpe_lane.proofs.OuterEdges.{outer-stays}
 use Rattle.hpe_trellis.proofs.KeptBits.{length-kept}
-use Rattle.hpe_lane.proofs.SameScores.{IsGreatest-score, IsSoft-score}
+use Rattle.hpe_lane.proofs.Soft.{IsGreatest-score, IsSoft-score}
 use Rattle.hpe_trellis.specs.OuterTrellis.{column, width, kept_before, outer_edge, outer_start, OuterRows, OuterBack, IsInformationSoft, IsCodeSoft, SoftFrom, put_all}
 use Rattle.hpe_lane.proofs.OuterEdges.{at_four}
 use Rattle.hpe_trellis.proofs.Runs.{code_bit, soft-info, soft-code}

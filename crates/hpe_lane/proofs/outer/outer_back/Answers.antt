@@ -2,7 +2,7 @@ use Rattle.std.proofs.Common.{arith, ℤ, ◌+ℤ◌, sym, ap}
 use Rattle.hpe_base.specs.Sizes.{number_at}
 use Rattle.hpe_lane.proofs.OuterFits.{after_edge, afters_within}
 use Rattle.hpe_lane.proofs.OuterEdges.{back_top}
-use Rattle.hpe_lane.proofs.SameScores.{IsSoft-score}
+use Rattle.hpe_lane.proofs.Soft.{IsSoft-score}
 use Rattle.hpe_lane.proofs.outer.outer_back.Goals as goal
 
 pub greater_of-row-requires-clause-zero : goal.greater_of-row-requires-clause-zero
