@@ -65,8 +65,8 @@ returns-then-is_some-clause-checked g c = λ round e.
     let same1 : c.loop-before.self.profile ≡ p = c.loop-before.invariant.profile in
     let same2 : c.inner_half.new.self.profile ≡ p = c.inner_half.ensures.profile ∙ same1 in
     let same3 : c.outer_half.new.self.profile ≡ p = c.outer_half.ensures.profile ∙ same2 in
-    let lo_is : lo ≡ outer_numbers p counts l = c.inner_half.ensures.numbers ∙ ap (λ (q : Parameters). outer_numbers q counts l) same1 in
-    let hard_is : hard ≡ hard_bits p lo = c.outer_half.ensures.hard ∙ ap (λ (q : Parameters). hard_bits q lo) same2 in
+    let lo_is : lo ≡ outer_numbers p counts l = subst (λ (q : Parameters). lo ≡ outer_numbers q counts l) same1 c.inner_half.ensures.numbers in
+    let hard_is : hard ≡ hard_bits p lo = subst (λ (q : Parameters). hard ≡ hard_bits q lo) same2 c.outer_half.ensures.hard in
     let some : IsSome c.open_block.result = search rules in
     let right : is_right p hard ≡ true =
     ap₂ (λ (q : Parameters) (xs : List ℕ). is_right q xs) (sym same3) (sym c.deref.ensures.value) ∙ c.open_block.ensures.right.0 some in
@@ -107,8 +107,8 @@ loop-before-preserved g c =
     let same1 : c.loop-before.self.profile ≡ p = c.loop-before.invariant.profile in
     let same2 : c.inner_half.new.self.profile ≡ p = c.inner_half.ensures.profile ∙ same1 in
     let same3 : c.outer_half.new.self.profile ≡ p = c.outer_half.ensures.profile ∙ same2 in
-    let lo_is : lo ≡ outer_numbers p counts l = c.inner_half.ensures.numbers ∙ ap (λ (q : Parameters). outer_numbers q counts l) same1 in
-    let hard_is : hard ≡ hard_bits p lo = c.outer_half.ensures.hard ∙ ap (λ (q : Parameters). hard_bits q lo) same2 in
+    let lo_is : lo ≡ outer_numbers p counts l = subst (λ (q : Parameters). lo ≡ outer_numbers q counts l) same1 c.inner_half.ensures.numbers in
+    let hard_is : hard ≡ hard_bits p lo = subst (λ (q : Parameters). hard ≡ hard_bits q lo) same2 c.outer_half.ensures.hard in
     let wrong : is_right p hard ≡ false =
     ap₂ (λ (q : Parameters) (xs : List ℕ). is_right q xs) (sym same3) (sym c.deref.ensures.value)
     ∙ not_true _ (λ t. let some : IsSome c.open_block.result = c.open_block.ensures.right.1 t in search (rules, some)) in
