@@ -117,7 +117,12 @@ fn whole_and_ragged_inputs(rt: HostRuntime) -> Result<(), Fail> {
 #[test]
 fn slots_of_a_period(rt: HostRuntime) -> Result<(), Fail> {
     let octets = octets(rt.alloc(), 100, false)?;
-    let (_, output) = send(rt.alloc(), &Profile::basic(), &octets, 64, 100, PERIOD)?;
+    let (ended, output) = send(rt.alloc(), &Profile::basic(), &octets, 64, 100, PERIOD)?;
+    let sent = Sent {
+        frames: 1,
+        words: 1,
+    };
+    assert_eq!(rt; ended, Ok(sent));
     assert_eq!(rt; output.bytes().len(), PERIOD);
     assert_eq!(rt; pulses(output.bytes()), PULSES);
     // The marker begins 0, 5, 15, 14, and the codeword begins 12, 14.
