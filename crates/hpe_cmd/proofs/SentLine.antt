@@ -1,6 +1,5 @@
 -- The line on what was sent is that of the octets that were read.
-use Rattle.std.proofs.Common.{◌≡◌, ◌+◌, ◌*◌, ◌∙◌, ◌==◌, ap, ap₂, sym, ℕ, List, length, Bool, true, false, refl, arith, if◌then◌else◌}
-use Rattle.hpe_base.specs.Lists.{tabulate}
+use Rattle.std.proofs.Common.{◌≡◌, ◌+◌, ◌*◌, ◌∙◌, ◌==◌, ℕ, List, length, Bool, true, false, refl, arith, if◌then◌else◌}
 use Rattle.hpe_base.specs.Parameters.{Parameters, period_slots}
 use Rattle.hpe_base.specs.Frames.{frame_count}
 use Rattle.hpe_base.specs.Slicer.{block_count}

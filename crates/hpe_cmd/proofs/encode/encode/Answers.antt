@@ -1,8 +1,7 @@
-use Rattle.std.proofs.Common.{◌≡◌, ◌≢◌, ◌∙◌, ap, subst, sym, List, ℕ}
+use Rattle.std.proofs.Common.{◌≢◌, ◌∙◌, ap, subst, List, ℕ}
 use Rattle.std.specs.Io.KnownBytes.{append_known}
 use Rattle.hpe_io.specs.Devices.{GrowsByFront}
 use Rattle.hpe_cmd.specs.declared.ending.Ending.TheVariants.{Done}
-use Rattle.hpe_cmd.specs.Encoding.{encode_line}
 use Rattle.hpe_cmd.proofs.SentLine.{line_is}
 use Rattle.hpe_cmd.proofs.encode.encode.Goals as goal
 

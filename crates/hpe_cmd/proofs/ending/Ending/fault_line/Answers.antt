@@ -1,5 +1,5 @@
-use Rattle.std.proofs.Common.{refl, ◌∙◌, sym, ap}
-use Rattle.hpe_cmd.specs.FaultLines.{fault_line, limit_line, ragged_line}
+use Rattle.std.proofs.Common.{refl}
+use Rattle.hpe_cmd.specs.FaultLines.{limit_line, ragged_line}
 use Rattle.hpe_cmd.proofs.ending.Ending.fault_line.Goals as goal
 use Rattle.hpe_cmd.proofs.ending.Ending.fault_line.Goals.{in-Usage, in-ReadFault, in-WriteFault, in-NoMemory, in-TooLong, in-Ragged}
 
