@@ -1,13 +1,15 @@
 -- The lengths of the lists that the rounds work on.
-use Rattle.std.specs.Prelude.{◌≡◌, ℕ, ◌+◌, List, ℤ, length}
+use Rattle.std.specs.Prelude.{◌≡◌, ℕ, List, ℤ, length}
 use Rattle.hpe_base.specs.Parameters.{Parameters, codeword_symbols, codeword_bits, code_steps}
 use Rattle.hpe_base.specs.Rounds.{information_bits}
+use Rattle.hpe_inner.specs.Lengths as inner
+use Rattle.hpe_trellis.specs.OuterTrellis as outer
 
 pub record HasRoom (p : Parameters) (inner_numbers : List ℤ) (inner_rows : List (List ℤ)) (outer_numbers : List ℤ) (outer_rows : List (List ℤ)) (soft extrinsic moved information : List ℤ) (hard : List ℕ) : Type 0 where
   pub long_inner_numbers : length inner_numbers ≡ codeword_bits
-  pub long_inner_rows : length inner_rows ≡ codeword_symbols p.order + 1
+  pub long_inner_rows : length inner_rows ≡ inner.inner_rows (codeword_symbols p.order)
   pub long_outer_numbers : length outer_numbers ≡ codeword_bits
-  pub long_outer_rows : length outer_rows ≡ code_steps p.rate + 1
+  pub long_outer_rows : length outer_rows ≡ outer.outer_rows (code_steps p.rate)
   pub long_soft : length soft ≡ codeword_bits
   pub long_extrinsic : length extrinsic ≡ codeword_bits
   pub long_moved : length moved ≡ codeword_bits

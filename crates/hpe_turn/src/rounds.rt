@@ -13,8 +13,8 @@ use crate::verdict::Verdict;
 use hpe_base::{CODE_BITS, NoMemory, Profile, Steps};
 use hpe_block::open_block;
 use hpe_code::CodeTables;
-use hpe_inner::inner_soft;
-use hpe_trellis::outer_soft;
+use hpe_inner::{inner_rows, inner_soft};
+use hpe_trellis::{outer_rows, outer_soft};
 use std::alloc::Global;
 use std::sync::ledger::Ledger;
 
@@ -34,7 +34,7 @@ pub(crate) struct Rounds {
     pub(crate) profile: Profile,
     tables: CodeTables,
     /// The a-priori numbers of the inner code, in the order of the code interleaver.
-    pub(crate) inner_numbers: Vec<i32>,
+    inner_numbers: Vec<i32>,
     inner_rows: Vec<[i32; 2]>,
     /// The a-priori numbers of the outer code.
     outer_numbers: Vec<i32>,
@@ -46,7 +46,7 @@ pub(crate) struct Rounds {
     moved: Vec<i16>,
     /// The soft values of the information bits, and what they decide.
     information: Vec<i32>,
-    pub(crate) hard: Vec<u8>,
+    hard: Vec<u8>,
     ghost valid: { IsValid profile },
     ghost room: { HasRoom profile inner_numbers.items inner_rows.items outer_numbers.items outer_rows.items soft.items extrinsic.items moved.items information.items hard.items },
 }
@@ -61,9 +61,9 @@ impl Rounds {
             profile: p.copy(),
             tables: CodeTables::new(alloc)?,
             inner_numbers: zeros(alloc, CODE_BITS)?,
-            inner_rows: zeros(alloc, p.order().symbols() + 1)?,
+            inner_rows: zeros(alloc, inner_rows(p.order().symbols()))?,
             outer_numbers: zeros(alloc, CODE_BITS)?,
-            outer_rows: zeros(alloc, p.rate().steps() + 1)?,
+            outer_rows: zeros(alloc, outer_rows(p.rate().steps()))?,
             soft: zeros(alloc, CODE_BITS)?,
             extrinsic: zeros(alloc, CODE_BITS)?,
             moved: zeros(alloc, CODE_BITS)?,
@@ -73,7 +73,7 @@ impl Rounds {
     }
 
     /// Begins with a word: the first round has no a-priori numbers.
-    pub(crate) fn begin(&mut self)
+    fn begin(&mut self)
         ensures profile { self.new.profile ≡ self.old.profile }
         ensures numbers { self.new.inner_numbers.items ≡ replicate codeword_bits (pos 0) }
     {
@@ -81,7 +81,7 @@ impl Rounds {
     }
 
     /// The first half of a round: what the inner code gives to the outer one.
-    pub(crate) fn inner_half<L: Ledger>(&mut self, counts: &[u16], steps: &mut Steps<L>)
+    fn inner_half<L: Ledger>(&mut self, counts: &[u16], steps: &mut Steps<L>)
         requires counts { length counts.now ≡ codeword_symbols self.old.profile.order * positions self.old.profile.order }
         requires most { All (λ c. c ≤ 16383) counts.now }
         requires small { AllWithin 16383 self.old.inner_numbers.items }
@@ -105,7 +105,7 @@ impl Rounds {
     }
 
     /// The second half of a round: what the outer code decides.
-    pub(crate) fn outer_half<L: Ledger>(&mut self, steps: &mut Steps<L>)
+    fn outer_half<L: Ledger>(&mut self, steps: &mut Steps<L>)
         requires small { AllWithin 16383 self.old.outer_numbers.items }
         requires room { steps.old + 3 * code_steps self.old.profile.rate ≤ 2 ^ 60 }
         ensures profile { self.new.profile ≡ self.old.profile }
@@ -127,7 +127,7 @@ impl Rounds {
     }
 
     /// What the outer code gives to the inner one for the next round.
-    pub(crate) fn hand_back(&mut self)
+    fn hand_back(&mut self)
         requires soft { (i : ℕ) → i < codeword_bits → number_at self.old.soft.items i ≡ code_soft_value self.old.profile.columns self.old.outer_numbers.items (information_bits self.old.profile.rate) i }
         ensures profile { self.new.profile ≡ self.old.profile }
         ensures numbers { self.new.inner_numbers.items ≡ next_numbers self.old.profile self.old.outer_numbers.items }
