@@ -1,32 +1,181 @@
-ghost use Rattle.std.specs.Prelude.{◌≡◌, ◌<◌};
+ghost use Rattle.std.specs.Prelude.{◌≡◌, ◌<◌, ◌≤◌, ◌+◌, ◌*◌, true, length};
+ghost use Rattle.hpe_base.specs.Sizes.{AllWithin};
 
 use crate::{inner_rows, inner_soft};
-use hpe_base::{Order, Steps};
+use hpe_base::{CODE_BITS, Order, Steps};
+use std::alloc::{AllocError, Global};
 use std::marker::Brand;
+use std::process::Abort;
 use std::sync::ledger::{Blank, Ledger};
+use std::test::Fail;
 
-// The words 00, 01, 10, 11 give the symbols 0, 1, 3, 2 and score 0, 3, 0, 1.
-fn one_symbol<L: Ledger>(blank: Blank) -> [i32; 2]
+/// Whether each number is at most 16,383 in size.
+fn are_small(l: &[i32]) -> bool
+    ensures { result ≡ true → AllWithin 16383 l.now }
+{
+    for number in l {
+        if *number < -16_383 || 16_383 < *number {
+            return false;
+        }
+    }
+    true
+}
+
+/// The soft values of a word of so many symbols, by a counter of its own.
+fn counted<R: Abort, L: Ledger>(
+    rt: &R,
+    alloc: Global,
+    order: Order,
+    symbols: usize,
+    counts: &[u16],
+    l: &[i32],
+    blank: Blank,
+) -> Result<Vec<i32>, Fail>
     requires name { blank.name ≡ L.name }
     requires parts { blank.parts ≡ L.parts }
     requires some { 0 < blank.parts }
 {
+    assert!(rt; 1 <= symbols && symbols <= order.symbols());
+    assert!(rt; l.len() == symbols * order.bits() as usize && are_small(l));
+    assert!(rt; counts.len() == symbols * order.slots());
+    assert!(rt; counts.iter().all(|count| *count <= 16_383));
+    let mut rows = vec![in alloc; [0; 2]; inner_rows(symbols)]?;
+    let mut soft = vec![in alloc; 7; l.len()]?;
     let mut steps = Steps::<L>::new(blank);
-    let mut rows = [[0; 2]; 2];
-    let mut out = [0; 2];
-    inner_soft(
-        Order::P4,
-        &[0, 3, 1, 0],
-        &[0, 0],
-        &mut rows,
-        &mut out,
-        &mut steps,
-    );
-    out
+    inner_soft(order, counts, l, &mut rows, &mut soft, &mut steps);
+    Ok(soft)
+}
+
+fn soft_values<R: Abort>(
+    rt: &R,
+    alloc: Global,
+    order: Order,
+    symbols: usize,
+    counts: &[u16],
+    l: &[i32],
+) -> Result<Vec<i32>, Fail> {
+    counted::<R, Brand>(rt, alloc, order, symbols, counts, l, Blank::new(1))
 }
 
 #[test]
-fn one_symbol_by_hand(rt: HostRuntime) {
-    assert_eq!(rt; inner_rows(1), 2);
-    assert_eq!(rt; one_symbol::<Brand>(Blank::new(1)), [-2, 3]);
+fn one_symbol_by_hand(rt: HostRuntime) -> Result<(), Fail> {
+    // The words 00, 01, 10, 11 give the symbols 0, 1, 3, 2, and score 0, 3, 0, 1.
+    let soft = soft_values(&rt, rt.alloc(), Order::P4, 1, &[0, 3, 1, 0], &[0, 0])?;
+    assert!(rt; soft.as_slice() == [-2, 3].as_slice());
+    Ok(())
+}
+
+/// What a word scores, whose bit j has the value 2^j.
+fn score(order: Order, counts: &[u16], l: &[i32], word: u32) -> i32 {
+    let mut rest = word;
+    let mut score = 0_i32;
+    let mut parity = 0_usize;
+    let symbols = counts.chunks_exact(order.slots().max(1));
+    for (numbers, counts) in l.chunks_exact(order.bits().max(1) as usize).zip(symbols) {
+        let mut symbol = 0_usize;
+        for number in numbers {
+            if rest % 2 == 1 {
+                parity ^= 1;
+                score = score.saturating_add(*number);
+            }
+            rest /= 2;
+            symbol = symbol << 1 | parity;
+        }
+        if let Some(count) = counts.get(symbol) {
+            score = score.saturating_add(i32::from(*count));
+        }
+    }
+    score
+}
+
+/// The soft values by the scores of all words.
+fn enumerated(
+    alloc: Global,
+    order: Order,
+    counts: &[u16],
+    l: &[i32],
+) -> Result<Vec<i32>, AllocError>
+    requires { length l.now ≤ 8 }
+{
+    let mut ones = vec![in alloc; -1_000_000; l.len()]?;
+    let mut zeros = vec![in alloc; -1_000_000; l.len()]?;
+    for word in 0..1_u32 << l.len() {
+        let score = score(order, counts, l, word);
+        for place in 0..l.len() {
+            let best = if word >> place & 1 == 1 {
+                &mut ones
+            } else {
+                &mut zeros
+            };
+            if let Some(best) = best.get_mut(place) {
+                *best = score.max(*best);
+            }
+        }
+    }
+    for (one, zero) in ones.iter_mut().zip(zeros.iter()) {
+        *one = one.saturating_sub(*zero);
+    }
+    Ok(ones)
+}
+
+#[test]
+fn all_words(rt: HostRuntime) -> Result<(), Fail> {
+    for (order, symbols) in [
+        (Order::P4, 1),
+        (Order::P4, 2),
+        (Order::P4, 3),
+        (Order::P4, 4),
+        (Order::P8, 1),
+        (Order::P8, 2),
+    ] {
+        let mut counts = vec![in rt.alloc(); 0; symbols * order.slots()]?;
+        for (i, count) in counts.iter_mut().enumerate() {
+            *count = (i % 11 * 7 % 11) as u16;
+        }
+        let mut l = vec![in rt.alloc(); 0; symbols * order.bits() as usize]?;
+        for (i, number) in l.iter_mut().enumerate() {
+            *number = (i % 13 * 5 % 13) as i32 - 6;
+        }
+        let soft = soft_values(&rt, rt.alloc(), order, symbols, &counts, &l)?;
+        assert!(rt; l.len() <= 8);
+        let wanted = enumerated(rt.alloc(), order, &counts, &l)?;
+        assert!(rt; soft == wanted, "{symbols} symbols");
+    }
+    Ok(())
+}
+
+/// The counts of a whole codeword: 3 in each slot, but for the first of each symbol.
+fn counts_of(alloc: Global, order: Order, first: u16) -> Result<Vec<u16>, AllocError> {
+    let mut counts = Vec::new(alloc);
+    for _symbol in 0..order.symbols() {
+        for slot in 0..order.slots() {
+            counts.push(if slot == 0 { first } else { 3 })?;
+        }
+    }
+    Ok(counts)
+}
+
+#[test]
+fn whole_codewords(rt: HostRuntime) -> Result<(), Fail> {
+    let l = vec![in rt.alloc(); 0; CODE_BITS]?;
+    for order in [
+        Order::P4,
+        Order::P8,
+        Order::P16,
+        Order::P32,
+        Order::P64,
+        Order::P128,
+        Order::P256,
+    ] {
+        // Counts that are all alike say nothing of any bit.
+        let counts = counts_of(rt.alloc(), order, 3)?;
+        let soft = soft_values(&rt, rt.alloc(), order, order.symbols(), &counts, &l)?;
+        assert_eq!(rt; soft.len(), CODE_BITS);
+        assert!(rt; soft.iter().all(|value| *value == 0));
+        // Pulses in the first slot of each symbol say that each bit is 0.
+        let counts = counts_of(rt.alloc(), order, 4)?;
+        let soft = soft_values(&rt, rt.alloc(), order, order.symbols(), &counts, &l)?;
+        assert!(rt; soft.iter().all(|value| *value < 0));
+    }
+    Ok(())
 }
