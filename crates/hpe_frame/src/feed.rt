@@ -1,30 +1,13 @@
 // Octets to the bits of marked frames. Only the octets of one frame are kept, and each bit is read from them.
 ghost use Rattle.std.specs.Prelude.{◌≡◌, ◌≤◌, ◌<◌, ◌+◌, ◌*◌, ◌/◌, ◌-◌, ◌%◌, ◌↔◌, [], ◌∷◌, ◌++◌, length, IfOk, IsTrue, slice_index};
-ghost use Rattle.hpe_base.specs.Bits.{bits_of};
 ghost use Rattle.hpe_base.specs.Frames.{frame_bits};
 ghost use Rattle.hpe_frame.specs.Feeding.{HasFed, marked};
 
+use crate::bits::{MARKER_BITS, OCTET_BITS, bit_of};
 use hpe_base::Profile;
 use hpe_io::NoMemory;
 use std::alloc::Global;
 use std::marker::Model;
-
-/// The bits of a frame marker.
-const MARKER_BITS: usize = u32::BITS as usize;
-
-/// The bits of an octet.
-const OCTET_BITS: usize = u8::BITS as usize;
-
-/// Bit `i` of a number of `width` bits, most significant first.
-#[tactic(auto, using(crate::proofs::FrameBits::number_bit))]
-fn bit_of(number: u32, width: usize, i: usize) -> u8
-    requires width { width ≤ MARKER_BITS }
-    requires within { i < width }
-    ensures value { result ≡ slice_index (bits_of width number) i }
-    ensures bit { result < 2 }
-{
-    ((number >> (width - 1 - i)) & 1) as u8
-}
 
 /// The first stage of the sender: it takes the octets of the input one by one, cuts them in transfer frames, and gives
 /// the bits of each frame with the attached frame marker before it.

@@ -1,7 +1,8 @@
-ghost use Rattle.std.specs.Prelude.{◌≡◌};
+ghost use Rattle.std.specs.Prelude.{◌≡◌, ◌≤◌, length};
 
-use crate::FrameFeed;
+use crate::{FrameFeed, FrameScan};
 use hpe_base::{Fields, Profile};
+use hpe_io::{Failed, MemSink};
 use std::test::Fail;
 
 /// The frame marker of the built-in profile, 1ACFFC1D.
@@ -53,13 +54,13 @@ fn bits_of_a_frame(rt: HostRuntime) -> Result<(), Fail> {
     Ok(())
 }
 
-#[test]
-fn frames_of_one_octet(rt: HostRuntime) -> Result<(), Fail> {
+/// A valid profile of frames of one octet with that frame marker.
+fn frames_of_one(frame_marker: i64) -> Result<Profile, Fail> {
     let p = Profile::new(&Fields {
         order: 16,
         rate: "1/3",
         frame_octets: 1,
-        frame_marker: 0x8000_0001,
+        frame_marker,
         taps: 169,
         seed: 255,
         check: 537_149_449,
@@ -71,6 +72,12 @@ fn frames_of_one_octet(rt: HostRuntime) -> Result<(), Fail> {
         rounds: 16,
         search: 1,
     })?;
+    Ok(p)
+}
+
+#[test]
+fn frames_of_one_octet(rt: HostRuntime) -> Result<(), Fail> {
+    let p = frames_of_one(0x8000_0001)?;
     let mut feed = FrameFeed::new(rt.alloc(), &p)?;
     for (octet, bits) in [
         (0xA1, [1, 0, 1, 0, 0, 0, 0, 1]),
@@ -83,5 +90,49 @@ fn frames_of_one_octet(rt: HostRuntime) -> Result<(), Fail> {
         }
         assert_eq!(rt; feed.rest(), 0);
     }
+    Ok(())
+}
+
+/// The bits of a block at the built-in profile.
+const BLOCK_BITS: usize = 5_006;
+
+#[test]
+fn no_frame(rt: HostRuntime) -> Result<(), Fail> {
+    let mut scan = FrameScan::new(rt.alloc(), &Profile::basic())?;
+    let mut sink = MemSink::new(rt.alloc(), 1_000, &[])?;
+    let zeros = [0; BLOCK_BITS];
+    assert_eq!(rt; scan.block(Some(&zeros), &mut sink), Ok(0));
+    assert_eq!(rt; scan.block(None, &mut sink), Ok(0));
+    assert_eq!(rt; scan.frames(), 0);
+    assert_eq!(rt; sink.bytes().len(), 0);
+    Ok(())
+}
+
+/// A block that begins with a frame of zeros.
+fn frame_of_zeros() -> [u8; BLOCK_BITS] {
+    let mut block = [0; BLOCK_BITS];
+    block[..32].copy_from_slice(&MARKER);
+    block
+}
+
+#[test]
+fn frame_in_a_block(rt: HostRuntime) -> Result<(), Fail> {
+    let mut scan = FrameScan::new(rt.alloc(), &Profile::basic())?;
+    let mut sink = MemSink::new(rt.alloc(), 1_000, &[])?;
+    assert_eq!(rt; scan.block(Some(&frame_of_zeros()), &mut sink), Ok(1));
+    assert_eq!(rt; scan.frames(), 1);
+    assert!(rt; !scan.spent());
+    assert_eq!(rt; sink.bytes(), [0; 100].as_slice());
+    Ok(())
+}
+
+#[test]
+fn sink_that_fails(rt: HostRuntime) -> Result<(), Fail> {
+    let mut scan = FrameScan::new(rt.alloc(), &Profile::basic())?;
+    let mut sink = MemSink::new(rt.alloc(), 1_000, &[0])?;
+    assert_eq!(rt; scan.block(Some(&frame_of_zeros()), &mut sink), Err(Failed));
+    assert!(rt; scan.spent());
+    assert_eq!(rt; scan.frames(), 0);
+    assert_eq!(rt; sink.bytes(), [0; 50].as_slice());
     Ok(())
 }

@@ -1,0 +1,14 @@
+use Rattle.std.proofs.Common.{◌≡◌, ◌-◌, ◌≤◌, length}
+use Rattle.hpe_base.specs.MarkerSearch.{score}
+use Rattle.hpe_find.specs.Leading.{Leads}
+use Rattle.hpe_find.proofs.search.best_offset.Given as goal
+
+abbrev pub invariant-loop-from : goal.invariant-loop-from
+invariant-loop-from l = record {
+  leads : Leads (score l.p l.counts) l.from l.best.offset l.best.score;
+  within : l.from ≤ l.period;
+  room : length l.room ≡ 256;
+}
+
+abbrev pub decreases-loop-from : goal.decreases-loop-from
+decreases-loop-from l = l.period - l.from

@@ -1,0 +1,4 @@
+pub mod Finding
+pub mod FinderView
+pub mod Found
+pub mod Leading
