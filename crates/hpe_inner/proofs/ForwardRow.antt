@@ -12,7 +12,8 @@ use Rattle.hpe_base.specs.Sizes.{number_at, Within, AllWithin}
 use Rattle.hpe_lane.specs.Edges.{gray_from, edge_of}
 use Rattle.hpe_inner.specs.Sweeps.{stage_edge, inner_edge, inner_next, inner_start, RowWithin, ForwardRows}
 use Rattle.hpe_base.proofs.Greatest.{IsGreatest-carry}
-use Rattle.hpe_lane.proofs.DifferingBits.{gray-within, list_within, wider}
+use Rattle.hpe_lane.proofs.DifferingBits.{gray-within, list_within}
+use Rattle.hpe_lane.proofs.Sizes.{zero_within, wider, drop_within}
 
 even_stays : (p u : ℕ) → p < 2 → u < 2 → u % 2 < 2
 even_stays p u h k = omega arith
@@ -146,8 +147,6 @@ drop_most zero xs f i = f i
 drop_most (suc n) [] f i = omega arith
 drop_most (suc n) (x ∷ xs) f i = drop_most n xs (λ k. f (suc k)) i
 
-zero_within : (m : ℕ) → Within m (pos 0)
-zero_within m = (omega (arith, ints), omega (arith, ints))
 
 take_within : (m n : ℕ) (xs : List ℤ) → AllWithin m xs → (i : ℕ) → Within m (number_at (take n xs) i)
 take_within m zero xs f i = zero_within m
@@ -155,10 +154,6 @@ take_within m (suc n) [] f i = zero_within m
 take_within m (suc n) (x ∷ xs) f zero = f 0
 take_within m (suc n) (x ∷ xs) f (suc i) = take_within m n xs (λ k. f (suc k)) i
 
-drop_within : (m n : ℕ) (xs : List ℤ) → AllWithin m xs → (i : ℕ) → Within m (number_at (drop n xs) i)
-drop_within m zero xs f i = f i
-drop_within m (suc n) [] f i = zero_within m
-drop_within m (suc n) (x ∷ xs) f i = drop_within m n xs (λ k. f (suc k)) i
 
 -- what a stage's call says of its slices, said of the whole word; k and size are the lengths that the code cuts by
 pub stage_best : (m k n t size : ℕ) (counts : List ℕ) (l : List ℤ) (row next : List ℤ) → k ≡ m → size ≡ 2 ^ m → length l ≡ n * m → t < n

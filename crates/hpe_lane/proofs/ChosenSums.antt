@@ -4,10 +4,7 @@ use Rattle.std.specs.Prelude.{nat_eq}
 use Rattle.std.proofs.lemmas.Int.{ints}
 use Rattle.hpe_base.specs.Sizes.{Within, AllWithin}
 use Rattle.hpe_base.specs.PathScores.{chosen_sum}
-
--- nothing is within every size
-pub zero_within : (m : ℕ) → Within m (pos 0)
-zero_within m = (omega (arith, ints), omega (arith, ints))
+use Rattle.hpe_lane.proofs.Sizes.{zero_within}
 
 grow : (n : ℕ) (x z : ℤ) → Within 16383 x → Within (n * 16383) z → Within (suc n * 16383) (x +ℤ z)
 grow n x z h k = (omega (arith, ints), omega (arith, ints))

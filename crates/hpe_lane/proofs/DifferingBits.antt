@@ -10,6 +10,7 @@ use Rattle.std.proofs.lemmas.List.{get_or-append-add, length-drop}
 use Rattle.std.proofs.Math.Seq.{drop-cons}
 use Rattle.std.proofs.Math.ListN.{get_or-append}
 use Rattle.hpe_base.specs.Sizes.{number_at, Within, AllWithin}
+use Rattle.hpe_lane.proofs.Sizes.{zero_within, wider, drop_within}
 use Rattle.hpe_lane.specs.Edges.{gray_from}
 
 double : (a q v : ℕ) → a * (q + q) + v ≡ (a + a) * q + v
@@ -127,9 +128,6 @@ lanes_cons : (m : ℕ) (x : ℤ) (xs : List ℤ) → Within m x → AllWithin m 
 lanes_cons m x xs h f zero = h
 lanes_cons m x xs h f (suc i) = f i
 
-none_within : (m : ℕ) → Within m (pos 0)
-none_within m = (omega (arith, ints), omega (arith, ints))
-
 front_below : (n i : ℕ) → i < n → suc i < suc n
 front_below n i h = omega arith
 
@@ -138,16 +136,8 @@ first_below n = omega arith
 
 -- a bound of the elements is a bound of the list
 pub list_within : (m : ℕ) (xs : List ℤ) → ((i : ℕ) → i < length xs → Within m (number_at xs i)) → AllWithin m xs
-list_within m [] f = λ i. none_within m
+list_within m [] f = λ i. zero_within m
 list_within m (x ∷ xs) f = λ i. lanes_cons m x xs (f 0 (first_below (length xs))) (list_within m xs (λ k h. f (suc k) (front_below (length xs) k h))) i
-
-drop_list_within : (m n : ℕ) (xs : List ℤ) → AllWithin m xs → AllWithin m (drop n xs)
-drop_list_within m zero xs f = f
-drop_list_within m (suc n) [] f = λ i. none_within m
-drop_list_within m (suc n) (x ∷ xs) f = drop_list_within m n xs (λ k. f (suc k))
-
-pub wider : (a b : ℕ) (z : ℤ) → a ≤ b → Within a z → Within b z
-wider a b z le w = (let p = w.0 in omega (arith, ints), let p = w.1 in omega (arith, ints))
 
 seven : (k : ℕ) → k ≤ 7 → k * 16383 ≤ 114681
 seven k h = omega arith
@@ -162,7 +152,7 @@ gray_low_within l k half out low high short lt whole ll within done =
     let p : i < half = omega arith in
     let e : number_at low i ≡ gray_from 0 (drop (length l - k) l) i = sym (get_or-append low high (pos 0) i h) ∙ ap (λ (xs : List ℤ). number_at xs i) (sym whole) ∙ done i p in
     let n : length (drop (length l - k) l) ≡ k = length-drop (length l - k) l ∙ suffix_long (length l) k (omega arith) in
-    let w = gray-within 16383 0 (drop (length l - k) l) i (drop_list_within 16383 (length l - k) l within) in
+    let w = gray-within 16383 0 (drop (length l - k) l) i (drop_within 16383 (length l - k) l within) in
     let cap : length (drop (length l - k) l) * 16383 ≤ 114681 = subst (λ (j : ℕ). j * 16383 ≤ 114681) (sym n) (seven k (omega arith)) in
     subst (Within 114681) (sym e) (wider (length (drop (length l - k) l) * 16383) 114681 (gray_from 0 (drop (length l - k) l) i) cap w))
 

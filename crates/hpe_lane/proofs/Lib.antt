@@ -1,3 +1,4 @@
+pub mod Sizes
 pub mod ChosenSums
 pub mod OuterEdges
 pub mod OuterFits

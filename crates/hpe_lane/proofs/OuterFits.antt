@@ -7,6 +7,7 @@ use Rattle.hpe_base.specs.Greatest.{IsSoft}
 use Rattle.hpe_base.specs.Trellis.{IsEdge}
 use Rattle.hpe_lane.specs.OuterStage.{outer_next, edge_sum, soft_bit}
 use Rattle.hpe_lane.proofs.OuterEdges.{outer-stays}
+use Rattle.hpe_lane.proofs.Sizes.{wider}
 use Rattle.hpe_lane.specs.OuterSums.{best_sum, chosen_after}
 use Rattle.hpe_lane.proofs.OuterEdges.{best_shifted, best_same, class_soft, pick, at_four, after_within, edge_sum_within}
 
@@ -21,10 +22,6 @@ fits z h = search (rules, ints)
 -- and are kept as they are
 pub clean : (z : ℤ) → Within 1300000000 z → kept_z z ≡ z
 clean z h = omega (arith, ints)
-
--- within a size is within a greater one
-pub wider : (m n : ℕ) (z : ℤ) → m ≤ n → Within m z → Within n z
-wider m n z h k = (let a = k.0 in omega (arith, ints), let a = k.1 in omega (arith, ints))
 
 -- each of four numbers is at most so large
 abbrev pub AreWithin : ℕ → List ℤ → Type 0

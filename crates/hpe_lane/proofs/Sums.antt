@@ -11,7 +11,7 @@ use Rattle.hpe_base.specs.Trellis.{IsEdge}
 use Rattle.hpe_base.proofs.Greatest.{max_left, max_right, max_cases, le_trans, plus_mono, IsGreatest-join}
 use Rattle.hpe_base.specs.Sizes.{number_at, Within}
 use Rattle.hpe_lane.specs.Edges.{HasParity, edge_of}
-use Rattle.hpe_lane.proofs.DifferingBits.{wider}
+use Rattle.hpe_lane.proofs.Sizes.{wider}
 
 pub fits : (z : ℤ) → Within 2000000000 z → FitsSigned w32 z
 fits z h = search (rules, ints)

@@ -7,7 +7,8 @@ use Rattle.hpe_base.proofs.Trellis.{Fore, Back, IsRun, path-append, ends-append,
 use Rattle.hpe_base.specs.Sizes.{number_at, Within, AllWithin}
 use Rattle.hpe_base.specs.ConvolutionalCode.{selected}
 use Rattle.hpe_lane.specs.OuterStage.{edge_outputs, outer_next}
-use Rattle.hpe_lane.proofs.ChosenSums.{zero_within, chosen-within}
+use Rattle.hpe_lane.proofs.ChosenSums.{chosen-within}
+use Rattle.hpe_lane.proofs.Sizes.{zero_within, drop_within}
 use Rattle.hpe_lane.proofs.OuterEdges.{outer-stays}
 use Rattle.hpe_trellis.proofs.KeptBits.{length-kept}
 use Rattle.hpe_trellis.specs.OuterTrellis.{column, width, kept_before, outer_edge, outer_start}
@@ -35,12 +36,6 @@ kept-count columns t (suc n) =
 -- from step 0 on they are all
 pub kept-count-all : (columns : List (List Bool)) (n : ℕ) → kept_count columns 0 n ≡ kept_before columns n
 kept-count-all columns n = sym (zero-add (kept_count columns 0 n)) ∙ kept-count columns 0 n ∙ ap (kept_before columns) (zero-add n)
-
--- numbers from a place on
-pub drop_within : (m n : ℕ) (xs : List ℤ) → AllWithin m xs → (i : ℕ) → Within m (number_at (drop n xs) i)
-drop_within m zero xs f i = f i
-drop_within m (suc n) [] f i = zero_within m
-drop_within m (suc n) (x ∷ xs) f i = drop_within m n xs (λ k. f (suc k)) i
 
 sum_within : (a b : ℕ) (x z : ℤ) → Within (a * 16383) x → Within (b * 16383) z → Within ((a + b) * 16383) (x +ℤ z)
 sum_within a b x z h k = (let p = h.0 in let q = k.0 in omega (arith, ints), let p = h.1 in let q = k.1 in omega (arith, ints))

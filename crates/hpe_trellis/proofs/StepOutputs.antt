@@ -11,8 +11,8 @@ use Rattle.hpe_base.specs.ConvolutionalCode.{selected}
 use Rattle.hpe_lane.specs.OuterStage.{edge_outputs, edge_sum}
 use Rattle.hpe_trellis.proofs.KeptBits.{chosen_none}
 use Rattle.hpe_trellis.specs.OuterTrellis.{put_all}
-use Rattle.hpe_lane.proofs.OuterFits.{kept_z, clean, wider}
-use Rattle.hpe_lane.proofs.ChosenSums.{zero_within}
+use Rattle.hpe_lane.proofs.OuterFits.{kept_z, clean}
+use Rattle.hpe_lane.proofs.Sizes.{zero_within, wider}
 
 -- the numbers of the outputs, 0 for those that aren't kept
 abbrev spread : List Bool → List ℤ → ℕ → List ℤ
