@@ -147,13 +147,11 @@ drop_most zero xs f i = f i
 drop_most (suc n) [] f i = omega arith
 drop_most (suc n) (x ∷ xs) f i = drop_most n xs (λ k. f (suc k)) i
 
-
 take_within : (m n : ℕ) (xs : List ℤ) → AllWithin m xs → (i : ℕ) → Within m (number_at (take n xs) i)
 take_within m zero xs f i = zero_within m
 take_within m (suc n) [] f i = zero_within m
 take_within m (suc n) (x ∷ xs) f zero = f 0
 take_within m (suc n) (x ∷ xs) f (suc i) = take_within m n xs (λ k. f (suc k)) i
-
 
 -- what a stage's call says of its slices, said of the whole word; k and size are the lengths that the code cuts by
 pub stage_best : (m k n t size : ℕ) (counts : List ℕ) (l : List ℤ) (row next : List ℤ) → k ≡ m → size ≡ 2 ^ m → length l ≡ n * m → t < n

@@ -5,3 +5,4 @@ pub mod BestWord
 pub mod ForwardRow
 pub mod BackwardRow
 pub mod Orders
+pub mod ScoreBounds

@@ -8,8 +8,10 @@
 
 mod backward;
 mod forward;
+mod laws;
 mod soft;
 #[cfg(test)]
 mod tests;
 
+pub use laws::inner_scores_are_bounded;
 pub use soft::{inner_rows, inner_soft};

@@ -4,7 +4,7 @@ use Rattle.std.proofs.lemmas.Int.{ints}
 use Rattle.hpe_base.specs.Trellis.{walk, ends, IsPath}
 use Rattle.hpe_base.proofs.Greatest.{le_trans}
 use Rattle.hpe_base.proofs.Trellis.{Fore, Back, IsRun, path-append, ends-append, ends-below}
-use Rattle.hpe_base.specs.Sizes.{number_at, Within, AllWithin}
+use Rattle.hpe_base.specs.Sizes.{Within, AllWithin}
 use Rattle.hpe_base.specs.ConvolutionalCode.{selected}
 use Rattle.hpe_lane.specs.OuterStage.{edge_outputs, outer_next}
 use Rattle.hpe_lane.proofs.ChosenSums.{chosen-within}

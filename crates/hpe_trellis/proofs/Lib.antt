@@ -3,3 +3,4 @@ pub mod Bounds
 pub mod Runs
 pub mod StepOutputs
 pub mod Recursion
+pub mod ScoreBounds

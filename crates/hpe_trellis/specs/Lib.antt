@@ -1,1 +1,2 @@
 pub mod OuterTrellis
+pub mod Laws

@@ -4,9 +4,11 @@
 //! it, and gives the soft values as it goes.
 #![tactic(auto)]
 
+mod laws;
 mod outer;
 mod puncturing;
 #[cfg(test)]
 mod tests;
 
+pub use laws::outer_scores_are_bounded;
 pub use outer::{outer_rows, outer_soft};
