@@ -1,5 +1,5 @@
 -- How many numbers wait in the rings of an unweaver.
-use Rattle.std.proofs.Common.{◌≡◌, ◌<◌, ◌≤◌, ◌+◌, ◌-◌, ◌*◌, ℕ, List, [], ◌∷◌, length, min, ap, sym, ◌∙◌, arith, inl, inr, sum, sum_by, zero, suc, take, get_or, ◌/◌}
+use Rattle.std.proofs.Common.{◌≡◌, ◌<◌, ◌≤◌, ◌+◌, ◌-◌, ◌*◌, ℕ, List, [], length, min, ap, sym, ◌∙◌, arith, inl, inr, sum, sum_by, zero, suc, take, get_or, ◌/◌}
 use Rattle.std.proofs.lemmas.Bool.{cases_lt}
 use Rattle.std.proofs.lemmas.Nat.{mul-le}
 use Rattle.std.proofs.lemmas.List.{length-drop, take_all}
