@@ -1,8 +1,9 @@
-ghost use Rattle.std.specs.Prelude.{◌≡◌, ◌≤◌, length};
+ghost use Rattle.std.specs.Prelude.{◌≡◌, ◌≤◌, ◌+◌, ◌*◌, length};
 
 use crate::{FrameFeed, FrameScan};
 use hpe_base::{Fields, Profile};
 use hpe_io::{Failed, MemSink};
+use std::alloc::AllocError;
 use std::test::Fail;
 
 /// The frame marker of the built-in profile, 1ACFFC1D.
@@ -134,5 +135,79 @@ fn sink_that_fails(rt: HostRuntime) -> Result<(), Fail> {
     assert!(rt; scan.spent());
     assert_eq!(rt; scan.frames(), 0);
     assert_eq!(rt; sink.bytes(), [0; 50].as_slice());
+    Ok(())
+}
+
+/// Appends a frame with its marker.
+fn append_frame(bits: &mut Vec<u8>, octets: &[u8; 100]) -> Result<(), AllocError> {
+    bits.extend_from_slice(&MARKER)?;
+    for octet in octets {
+        for place in (0..8_u32).rev() {
+            bits.push(*octet >> place & 1)?;
+        }
+    }
+    Ok(())
+}
+
+/// The bits of the block of that number.
+fn block_of(bits: &[u8], number: usize) -> &[u8]
+    requires { (number + 1) * 5006 ≤ length bits.now }
+    ensures { length result.now ≡ 5006 }
+{
+    let first = number * BLOCK_BITS;
+    &bits[first..first + BLOCK_BITS]
+}
+
+#[test]
+fn frames_around_a_lost_block(rt: HostRuntime) -> Result<(), Fail> {
+    // thirty frames, each of octets that are its number, fill five blocks but for 70 bits
+    let mut bits = Vec::new(rt.alloc());
+    for number in 0..30_u8 {
+        append_frame(&mut bits, &[number; 100])?;
+    }
+    assert_eq!(rt; bits.len(), 24_960);
+    bits.resize(5 * BLOCK_BITS, 0)?;
+    let mut scan = FrameScan::new(rt.alloc(), &Profile::basic())?;
+    let mut sink = MemSink::new(rt.alloc(), 10_000, &[])?;
+    assert_eq!(rt; scan.block(Some(block_of(&bits, 0)), &mut sink), Ok(6));
+    assert_eq!(rt; scan.block(Some(block_of(&bits, 1)), &mut sink), Ok(6));
+    assert_eq!(rt; scan.block(None, &mut sink), Ok(0));
+    assert_eq!(rt; scan.block(Some(block_of(&bits, 3)), &mut sink), Ok(5));
+    assert_eq!(rt; scan.block(Some(block_of(&bits, 4)), &mut sink), Ok(6));
+    assert_eq!(rt; scan.frames(), 23);
+    assert_eq!(rt; sink.bytes().len(), 2_300);
+    // the lost block has bits of frames 12 to 18
+    for (octets, number) in sink.bytes().chunks_exact(100).zip((0..12).chain(19..30)) {
+        assert_eq!(rt; octets, [number; 100].as_slice());
+    }
+    Ok(())
+}
+
+/// The octets of a frame that has the frame marker among them.
+fn decoy() -> [u8; 100] {
+    let mut octets = [0; 100];
+    octets[50..54].copy_from_slice(&[0x1A, 0xCF, 0xFC, 0x1D]);
+    octets
+}
+
+#[test]
+fn marker_inside_of_a_frame(rt: HostRuntime) -> Result<(), Fail> {
+    // eighteen frames fill three blocks but for 42 bits
+    let mut bits = Vec::new(rt.alloc());
+    for _number in 0..18 {
+        append_frame(&mut bits, &decoy())?;
+    }
+    assert_eq!(rt; bits.len(), 14_976);
+    bits.resize(3 * BLOCK_BITS, 0)?;
+    let mut scan = FrameScan::new(rt.alloc(), &Profile::basic())?;
+    let mut sink = MemSink::new(rt.alloc(), 10_000, &[])?;
+    assert_eq!(rt; scan.block(Some(block_of(&bits, 0)), &mut sink), Ok(6));
+    assert_eq!(rt; scan.block(None, &mut sink), Ok(0));
+    // frame 12 begins in the lost block; what stands from the marker among its octets on is no frame
+    assert_eq!(rt; scan.block(Some(block_of(&bits, 2)), &mut sink), Ok(5));
+    assert_eq!(rt; sink.bytes().len(), 1_100);
+    for octets in sink.bytes().chunks_exact(100) {
+        assert_eq!(rt; octets, decoy().as_slice());
+    }
     Ok(())
 }
