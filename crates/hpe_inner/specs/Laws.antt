@@ -20,7 +20,8 @@ pub record IsWord (l : List ℤ) (x : List ℕ) : Type 0 where
   pub bits : AreBits x
   pub long : length x ≡ length l
 
--- the scores of words: their size, how far two of them are apart, and that another start state than 0 costs more
+-- the scores of words: their size, how far two of them are apart, and that another start state than 0 costs more.
+-- 371,566,440 is 16,383 times 7,560 counts and 15,120 numbers, and scores are that much above 0 and 247,710,960 below it.
 pub record AreBounded (o : Order) (counts : List ℕ) (l : List ℤ) : Type 0 where
   pub size : (x : List ℕ) → IsWord l x → Within 371566440 (inner_score o counts l x)
   pub apart : (x y : List ℕ) → IsWord l x → IsWord l y → Within 619277400 (inner_score o counts l x -ℤ inner_score o counts l y)

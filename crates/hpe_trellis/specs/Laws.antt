@@ -18,9 +18,9 @@ pub record IsFree (n : ℕ) (u : List ℕ) : Type 0 where
   pub bits : AreBits u
   pub long : length u ≡ n
 
--- the scores of free words, which are the sizes of their numbers alone, 15,120 times 16,383 at most: their size, how
--- far two of them are apart, where each number counts in one, in both or in none, and that another first or last state
--- than 0 costs more
+-- the scores of free words: their size, how far two of them are apart, and that another first or last state than 0 costs
+-- more. 247,710,960 is 15,120 times 16,383, which is less than the bound of inner scores; it is also how far two are
+-- apart, since each number counts in one, in both or in none.
 pub record AreBounded (columns : List (List Bool)) (n : ℕ) (l : List ℤ) : Type 0 where
   pub size : (u : List ℕ) → IsFree n u → Within 247710960 (outer_score columns l u)
   pub apart : (u v : List ℕ) → IsFree n u → IsFree n v → Within 247710960 (outer_score columns l u -ℤ outer_score columns l v)
