@@ -1,0 +1,8 @@
+pub mod FullSums
+pub mod FirstPeak
+pub mod SeenSlots
+pub mod SeenMarkers
+pub mod SeenSymbols
+pub mod SeenWords
+pub mod FirstRound
+pub mod ClearDecoded
