@@ -31,10 +31,6 @@ pub marker_symbol : (p : Parameters) (r : ℕ) → IsValid p → r < length p.ma
 marker_symbol p r v b =
     omega (arith, All-get_or (λ s. s < positions p.order) p.marker r 0 b v.marker_value, positions-lt p.order)
 
--- the place of a marker's symbol is a number of the machine
-pub place_small : (start r s m : ℕ) → start ≤ 2 ^ 27 → r < 64 → s ≤ 10240 → m < 256 → start + r * s + m ≤ 2 ^ 28
-place_small start r s m a b c d = let one : r * s ≤ 64 * 10240 = mul-le r s 64 10240 (omega arith) c in omega arith
-
 pub period_is : (m : Measures) (p : Parameters) → m ≡ measures_of p → m.period ≡ period_slots p
 period_is m p e = ap (λ (n : Measures). n.period) e
 

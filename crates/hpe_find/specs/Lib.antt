@@ -2,3 +2,4 @@ pub mod Finding
 pub mod FinderView
 pub mod Found
 pub mod Leading
+pub mod Sending

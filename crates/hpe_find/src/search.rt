@@ -1,14 +1,24 @@
 //! The scores of the offsets, a row of them at a time.
-ghost use Rattle.std.specs.Prelude.{◌≡◌, ◌≤◌, ◌<◌, ◌+◌, ◌*◌, ◌^◌, ℕ, length, slice_index, sum};
+//!
+//! The sum over one sending of the marker is worked out once for each slot, and each score adds the sums of its
+//! sendings: an offset costs an addition for each symbol of the marker and one for each sending.
+ghost use Rattle.std.specs.Prelude.{◌≡◌, ◌≤◌, ◌<◌, ◌+◌, ◌-◌, ◌*◌, ◌^◌, ℕ, length, slice_index, sum};
 ghost use Rattle.hpe_base.specs.Lists.{tabulate};
 ghost use Rattle.hpe_base.specs.Parameters.{sending_slots, period_slots};
-ghost use Rattle.hpe_base.specs.MarkerSearch.{marker_sum, searched_periods, score};
+ghost use Rattle.hpe_base.specs.MarkerSearch.{searched_periods, score};
 ghost use Rattle.hpe_find.specs.Leading.{Leads};
+ghost use Rattle.hpe_find.specs.Sending.{sending_sum};
 
 use hpe_base::{Profile, geometry};
 
 /// How many offsets are scored side by side.
-const ROW: usize = 256;
+const ROW: usize = 8_192;
+
+/// The most slots from the first sending of a symbol to its last: 31 sendings of 320 slots.
+const MOST_OVERHANG: usize = 31 * 320;
+
+/// The most sums that score a row: one for each offset, and one for each slot of the overhang.
+const SUMS: usize = ROW + MOST_OVERHANG;
 
 /// The slots of one sending of a symbol.
 fn sending_slots(p: &Profile) -> usize
@@ -18,9 +28,17 @@ fn sending_slots(p: &Profile) -> usize
     geometry(p).symbol_slots / p.repeat()
 }
 
+/// The slots from the first sending of a symbol to its last.
+fn overhang(p: &Profile) -> usize
+    ensures value { result ≡ (p.now.repeat - 1) * sending_slots p.now.order }
+    ensures most { result ≤ 9920 }
+{
+    (p.repeat() - 1) * sending_slots(p)
+}
+
 /// Adds to each sum the count that stands as far behind `place` as the sum in its row. A place past the end counts 0.
-fn add_counts(counts: &[u8], place: usize, sums: &mut [u32])
-    requires small { (k : ℕ) → k < length sums.old → slice_index sums.old k ≤ 2 ^ 31 }
+fn add_counts(counts: &[u8], place: usize, sums: &mut [u16])
+    requires small { (k : ℕ) → k < length sums.old → slice_index sums.old k ≤ 2 ^ 15 }
     ensures { (k : ℕ) → k < length sums.old → slice_index sums.new k ≡ slice_index sums.old k + slice_index counts.now (place + k) }
 {
     if place >= counts.len() {
@@ -29,55 +47,73 @@ fn add_counts(counts: &[u8], place: usize, sums: &mut [u32])
     let run = &counts[place..];
     let many = sums.len().min(run.len());
     for k in 0..many {
-        sums[k] += u32::from(run[k]);
+        sums[k] += u16::from(run[k]);
     }
 }
 
-/// Adds the counts at the pulses of one symbol in all its sendings, the first of which is at `place`.
-fn add_symbol(counts: &[u8], place: usize, repeat: usize, stride: usize, sums: &mut [u32])
-    requires place { place ≤ 2 ^ 28 }
-    requires repeat { repeat ≤ 32 }
-    requires stride { stride ≤ 320 }
-    requires small { (k : ℕ) → k < length sums.old → slice_index sums.old k ≤ 2 ^ 30 }
-    ensures { (k : ℕ) → k < length sums.old
-        → slice_index sums.new k ≡ slice_index sums.old k + sum (tabulate repeat (λ i. slice_index counts.now (place + i * stride + k))) }
-{
-    for i in 0..repeat {
-        add_counts(counts, place + i * stride, sums);
-    }
-}
-
-/// Adds the counts at the pulses of the marker that begins at `start`.
-fn add_marker(p: &Profile, counts: &[u8], start: usize, sums: &mut [u32])
+/// Adds the counts at the pulses of one sending of the marker that begins at `start`.
+fn add_sending(p: &Profile, counts: &[u8], start: usize, sums: &mut [u16])
     requires start { start ≤ 2 ^ 27 }
-    requires small { (k : ℕ) → k < length sums.old → slice_index sums.old k ≤ 2 ^ 29 }
-    ensures { (k : ℕ) → k < length sums.old → slice_index sums.new k ≡ slice_index sums.old k + marker_sum p.now counts.now (start + k) }
+    requires small { (k : ℕ) → k < length sums.old → slice_index sums.old k ≤ 2 ^ 14 }
+    ensures { (k : ℕ) → k < length sums.old → slice_index sums.new k ≡ slice_index sums.old k + sending_sum p.now counts.now (start + k) }
 {
     let symbol_slots = geometry(p).symbol_slots;
-    let repeat = p.repeat();
-    let stride = sending_slots(p);
     let marker = p.marker();
     for r in 0..marker.len() {
-        add_symbol(
-            counts,
-            start + r * symbol_slots + marker[r] as usize,
-            repeat,
-            stride,
-            sums,
-        );
+        add_counts(counts, start + r * symbol_slots + marker[r] as usize, sums);
     }
 }
 
-/// The scores of a row of offsets.
-fn score_row(p: &Profile, counts: &[u8], periods: usize, from: usize, scores: &mut [u32])
+/// Adds to each score the sum that stands as far behind `place` as the score in its row. A place past the end counts 0.
+fn add_sums(sums: &[u16], place: usize, scores: &mut [u32])
+    requires small { (k : ℕ) → k < length scores.old → slice_index scores.old k ≤ 2 ^ 31 }
+    ensures { (k : ℕ) → k < length scores.old → slice_index scores.new k ≡ slice_index scores.old k + slice_index sums.now (place + k) }
+{
+    if place >= sums.len() {
+        return;
+    }
+    let run = &sums[place..];
+    let many = scores.len().min(run.len());
+    for k in 0..many {
+        scores[k] += u32::from(run[k]);
+    }
+}
+
+/// Adds to each score the sums of all sendings, which stand `stride` apart, from the score's own place on.
+fn add_repeats(sums: &[u16], repeat: usize, stride: usize, scores: &mut [u32])
+    requires repeat { repeat ≤ 32 }
+    requires stride { stride ≤ 320 }
+    requires small { (k : ℕ) → k < length scores.old → slice_index scores.old k ≤ 2 ^ 30 }
+    ensures { (k : ℕ) → k < length scores.old
+        → slice_index scores.new k ≡ slice_index scores.old k + sum (tabulate repeat (λ i. slice_index sums.now (i * stride + k))) }
+{
+    for i in 0..repeat {
+        add_sums(sums, i * stride, scores);
+    }
+}
+
+/// The scores of a row of offsets. `sums` is room for the sums of the row and of the overhang.
+fn score_row(
+    p: &Profile,
+    counts: &[u8],
+    periods: usize,
+    from: usize,
+    sums: &mut [u16],
+    scores: &mut [u32],
+)
     requires periods { periods ≡ searched_periods p.now counts.now }
     requires from { from < period_slots p.now }
+    requires room { length scores.old + (p.now.repeat - 1) * sending_slots p.now.order ≤ length sums.old }
     ensures { (k : ℕ) → k < length scores.old → slice_index scores.new k ≡ score p.now counts.now (from + k) }
 {
     let period = geometry(p).period;
+    let repeat = p.repeat();
+    let stride = sending_slots(p);
     scores.fill(0);
     for j in 0..periods {
-        add_marker(p, counts, from + j * period, scores);
+        sums.fill(0);
+        add_sending(p, counts, from + j * period, sums);
+        add_repeats(sums, repeat, stride, scores);
     }
 }
 
@@ -105,11 +141,18 @@ fn best_of(scores: &[u32], from: usize, mut best: Best) -> Best
     best
 }
 
-/// Room for a row of scores.
-fn blank_row() -> [u32; ROW]
-    ensures { length result ≡ 256 }
+/// Room for the scores of a row.
+fn blank_scores() -> [u32; ROW]
+    ensures { length result ≡ 8192 }
 {
     [0; ROW]
+}
+
+/// Room for the sums that score a row.
+fn blank_sums() -> [u16; SUMS]
+    ensures { length result ≡ 18112 }
+{
+    [0; SUMS]
 }
 
 /// The least offset below a period that has the greatest score.
@@ -118,16 +161,18 @@ pub fn best_offset(p: &Profile, counts: &[u8]) -> Best
 {
     let period = geometry(p).period;
     let periods = p.search().min(counts.len() / period);
+    let overhang = overhang(p);
     let mut best = Best {
         offset: 0,
         score: 0,
     };
-    let mut room = blank_row();
+    let mut sums = blank_sums();
+    let mut scores = blank_scores();
     let mut from = 0;
     while from < period {
         let many = ROW.min(period - from);
-        let row = &mut room[..many];
-        score_row(p, counts, periods, from, row);
+        let row = &mut scores[..many];
+        score_row(p, counts, periods, from, &mut sums[..many + overhang], row);
         best = best_of(row, from, best);
         from += many;
     }

@@ -7,7 +7,8 @@ abbrev pub invariant-loop-from : goal.invariant-loop-from
 invariant-loop-from l = record {
   leads : Leads (score l.p l.counts) l.from l.best.offset l.best.score;
   within : l.from ≤ l.period;
-  room : length l.room ≡ 256;
+  scores : length l.scores ≡ 8192;
+  sums : length l.sums ≡ 18112;
 }
 
 abbrev pub decreases-loop-from : goal.decreases-loop-from

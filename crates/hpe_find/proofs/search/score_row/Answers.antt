@@ -5,7 +5,7 @@ use Rattle.hpe_base.specs.Parameters.{period_slots}
 use Rattle.hpe_base.specs.MarkerSearch.{marker_sum, searched_periods, score}
 use Rattle.hpe_find.proofs.Sums.{Added-none, Added-more, Added-small}
 use Rattle.hpe_find.proofs.Sizes.{period_is, periods-le}
-use Rattle.hpe_find.proofs.Terms.{period_term, period_terms, marker_sum-le}
+use Rattle.hpe_find.proofs.Terms.{period_term, period_terms, sending_terms, marker_sum-le}
 use Rattle.hpe_find.proofs.search.score_row.Goals as goal
 
 place_here : (from j k x y : ℕ) → x ≡ y → from + j * x + k ≡ from + k + j * y
@@ -32,14 +32,14 @@ overflow_add-from c =
     let small = start_small c.args.from c.loop-j.j c.geometry-period.result.period (period_slots c.args.p.now) period c.requires.from (periods-le c.args.p.now c.loop-j.j c.geometry-period.ensures.valid (omega arith)) in
     omega arith
 
-pub add_marker-requires-clause-start : goal.add_marker-requires-clause-start
-add_marker-requires-clause-start c =
+pub add_sending-requires-clause-start : goal.add_sending-requires-clause-start
+add_sending-requires-clause-start c =
     let period = period_is c.geometry-period.result c.args.p.now c.geometry-period.ensures.value in
     let small = start_small c.args.from c.loop-j.j c.geometry-period.result.period (period_slots c.args.p.now) period c.requires.from (periods-le c.args.p.now c.loop-j.j c.geometry-period.ensures.valid (omega arith)) in
     omega arith
 
-pub add_marker-requires-clause-small : goal.add_marker-requires-clause-small
-add_marker-requires-clause-small c = λ k b.
+pub add_repeats-requires-clause-small : goal.add_repeats-requires-clause-small
+add_repeats-requires-clause-small c = λ k b.
     let valid = c.geometry-period.ensures.valid in
     let periods : c.args.p.now.search ≤ 4 = valid.search_high in
     let small = Added-small (period_term c.args.p.now c.args.counts.now c.args.from) c.fill.new.self c.loop-j.scores c.loop-j.j 522240 0
@@ -50,9 +50,15 @@ add_marker-requires-clause-small c = λ k b.
 pub loop-j-preserved : goal.loop-j-preserved
 loop-j-preserved c =
     let period = period_is c.geometry-period.result c.args.p.now c.geometry-period.ensures.value in
-    Added-more (period_term c.args.p.now c.args.counts.now c.args.from) _ _ _ _ c.loop-j.invariant c.add_marker.auto.sums
-    (λ k b. c.add_marker.ensures k b ∙ ap (λ n. get_or c.loop-j.scores k 0 + marker_sum c.args.p.now c.args.counts.now n)
-    (place_here c.args.from c.loop-j.j k c.geometry-period.result.period (period_slots c.args.p.now) period))
+    let start = c.args.from + c.loop-j.j * c.geometry-period.result.period in
+    Added-more (period_term c.args.p.now c.args.counts.now c.args.from) _ _ _ _ c.loop-j.invariant c.add_repeats.auto.scores
+    (λ k b. c.add_repeats.ensures k b ∙ ap (λ t. get_or c.loop-j.scores k 0 + t)
+    (sending_terms c.args.p.now c.args.counts.now c.add_sending.new.sums start k _ _ c.repeat-repeat.ensures.value c.sending_slots-stride.ensures.value (omega arith)
+    (λ x a.
+    let zero : get_or c.fill-in-loop-j.new.self x 0 ≡ 0 = grind (arith, common_steps) in
+    omega (arith, c.add_sending.ensures x (omega arith)))
+    ∙ ap (marker_sum c.args.p.now c.args.counts.now)
+    (place_here c.args.from c.loop-j.j k c.geometry-period.result.period (period_slots c.args.p.now) period)))
 
 pub returns : goal.returns
 returns c = λ k b.
