@@ -1,7 +1,7 @@
 //! The scores of the offsets, a row of them at a time.
 //!
-//! The sum over one sending of the marker is worked out once for each slot, and each score adds the sums of its
-//! sendings: an offset costs an addition for each symbol of the marker and one for each sending.
+//! The sum over one sending of the marker is worked out once for each slot of the row and its overhang, and each score
+//! adds the sums of its sendings. So the symbols of the marker are not added anew for each sending.
 ghost use Rattle.std.specs.Prelude.{◌≡◌, ◌≤◌, ◌<◌, ◌+◌, ◌-◌, ◌*◌, ◌^◌, ℕ, length, slice_index, sum};
 ghost use Rattle.hpe_base.specs.Lists.{tabulate};
 ghost use Rattle.hpe_base.specs.Parameters.{sending_slots, period_slots};
