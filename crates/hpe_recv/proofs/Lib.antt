@@ -1,0 +1,15 @@
+pub mod SymbolSums
+pub mod CourseRows
+pub mod CourseSettled
+pub mod Settling
+pub mod Fronts
+pub mod Delivered
+pub mod Groups
+pub mod WordRows
+pub mod TakenParts
+pub mod Taking
+pub mod Decoding
+pub mod Received
+pub mod Offsets
+pub mod Outcomes
+pub mod Streamed

@@ -1,0 +1,11 @@
+pub mod Rows
+pub mod Wording
+pub mod WordsView
+pub mod Delivering
+pub mod OutletView
+pub mod Following
+pub mod CourseView
+pub mod Streaming
+pub mod StreamView
+pub mod Receiving
+pub mod ReceiverView

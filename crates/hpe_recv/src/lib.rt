@@ -1,0 +1,14 @@
+//! The streaming receiver: from the counts of slots to transfer frames and a report, with room for the counts that the
+//! marker search needs, what the channel interleaver delays, one word, one block and one frame.
+#![tactic(auto)]
+
+mod course;
+mod intake;
+mod outlet;
+mod receiver;
+mod stream;
+#[cfg(test)]
+mod tests;
+mod words;
+
+pub use receiver::{Receiver, RecvFault, Tally, held_limit};
