@@ -3,3 +3,4 @@ pub mod Encoding
 pub mod GeometryLine
 pub mod Statuses
 pub mod FaultLines
+pub mod Decoding

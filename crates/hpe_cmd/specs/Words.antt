@@ -4,12 +4,13 @@ use Rattle.std.specs.Global.{Global}
 use Rattle.std.specs.Str.{bytes_eq}
 use Rattle.std.specs.declared.option.Option.{Option}
 use Rattle.hpe_cmd.specs.declared.words.Action.{Action}
-use Rattle.hpe_cmd.specs.declared.words.Action.TheVariants.{Encode, Geometry}
+use Rattle.hpe_cmd.specs.declared.words.Action.TheVariants.{Encode, Decode, Geometry}
 
 -- the action of that name
 abbrev pub action_of : List ℕ → Option Action
 action_of name =
     if bytes_eq name (codes "encode") then Some Encode
+    else if bytes_eq name (codes "decode") then Some Decode
     else if bytes_eq name (codes "geometry") then Some Geometry
     else None
 

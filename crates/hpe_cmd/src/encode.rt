@@ -8,15 +8,12 @@ ghost use Rattle.hpe_io.specs.Devices.{Rose, TakesCount, TakesAtMost, GrowsByFro
 ghost use Rattle.hpe_cmd.specs.Encoding.{Encodes, CutsOff, encode_line, sent_line, sent_slots};
 ghost use Rattle.hpe_cmd.specs.Statuses.{status_of, is_cut};
 
-use crate::ending::Ending;
-use crate::line::{Line, push_entry};
+use crate::ending::{Ending, LIMIT};
 use hpe_base::{Profile, geometry};
 use hpe_io::{Sink, Source};
 use hpe_send::{SendFault, Sender, Sent};
+use hpe_text::{Line, push_entry};
 use std::alloc::Global;
-
-/// The most octets of frames that are encoded.
-pub const LIMIT: u64 = 1 << 40;
 
 /// The slots of so many codewords with those that flush the channel interleaver.
 fn sent_slots(p: &Profile, words: u64) -> u64
@@ -86,6 +83,8 @@ pub fn encode<I: Source, O: Sink, R: Sink>(
     ensures report { result ≡ Ending.ReportFault → Rose (R.faults report.old) (R.faults report.new) }
     ensures memory { result ≡ Ending.NoMemory → (output.new ≡ output.old) × (input.new ≡ input.old) }
     ensures usage { result ≢ Ending.Usage }
+    ensures words_lost { result ≢ Ending.WordsLost }
+    ensures no_marker { result ≢ Ending.NoMarker }
     ensures silent { result ≢ Ending.Done → result ≢ Ending.ReportFault → report.new ≡ report.old }
     ensures taken { TakesAtMost (I.left input.old) (I.left input.new) (LIMIT + 1) }
     ensures grows { Grows (O.written output.old) (O.written output.new) }

@@ -4,14 +4,17 @@ ghost use Rattle.std.specs.Prelude.{◌≡◌, ◌≤◌, []};
 ghost use Rattle.hpe_cmd.specs.FaultLines.{fault_line, IsPut};
 ghost use Rattle.hpe_cmd.specs.Statuses.{status_number, status_of};
 
-use crate::encode::LIMIT;
-use crate::line::{Line, push_entry};
 use hpe_io::Sink;
+use hpe_text::{Line, push_entry};
+
+/// The most octets of an input: frames to encode, or counts to decode.
+pub const LIMIT: u64 = 1 << 40;
 
 /// How a run ended.
 #[derive(Clone, Copy, Debug, PartialEq, Eq)]
 pub enum Status {
-    /// The whole frames of the input are encoded, and nothing is left over.
+    /// All was done: the whole frames of the input are encoded and nothing is left over, the input is decoded and no word
+    /// is lost, or the measures are written.
     Done,
     /// The words are not a command.
     Usage,
@@ -27,6 +30,10 @@ pub enum Status {
     TooLong,
     /// The whole frames of the input are encoded, and the octets after them are not.
     Ragged,
+    /// The input is decoded, and some word is lost.
+    WordsLost,
+    /// The input is read, and all that the marker search sees of it is dark.
+    NoMarker,
 }
 
 impl Status {
@@ -43,6 +50,8 @@ impl Status {
             Status::NoMemory => 8,
             Status::TooLong => 9,
             Status::Ragged => 10,
+            Status::WordsLost => 11,
+            Status::NoMarker => 12,
         }
     }
 }
@@ -59,6 +68,8 @@ pub enum Ending {
     TooLong,
     /// `rest` octets of a begun frame are left over.
     Ragged { rest: u64 },
+    WordsLost,
+    NoMarker,
 }
 
 impl Ending {
@@ -75,6 +86,8 @@ impl Ending {
             Ending::NoMemory => Status::NoMemory,
             Ending::TooLong => Status::TooLong,
             Ending::Ragged { .. } => Status::Ragged,
+            Ending::WordsLost => Status::WordsLost,
+            Ending::NoMarker => Status::NoMarker,
         }
     }
 
@@ -84,7 +97,8 @@ impl Ending {
     {
         let mut line = Line::new();
         match self {
-            Ending::Done | Ending::ReportFault => return line,
+            Ending::Done | Ending::ReportFault | Ending::WordsLost | Ending::NoMarker =>
+                return line,
             Ending::Usage => {
                 line.push_str("usage: hpe encode, decode, geometry or simulate, with options");
             }

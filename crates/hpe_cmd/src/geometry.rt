@@ -3,9 +3,9 @@ ghost use Rattle.std.specs.Prelude.{◌≡◌, ◌<◌, ◌≤◌, length};
 ghost use Rattle.hpe_io.specs.Devices.{Puts, HasCause};
 ghost use Rattle.hpe_cmd.specs.GeometryLine.{geometry_line, rate_text};
 
-use crate::line::{Line, push_entry};
 use hpe_base::{Profile, Rate, geometry};
 use hpe_io::{Failed, Sink};
+use hpe_text::{Line, push_entry};
 
 /// The rate as it is written in a profile.
 fn rate_text(rate: Rate) -> &'static str

@@ -1,10 +1,10 @@
-//! The program `hpe`: it encodes transfer frames to pulse-position slots.
+//! The program `hpe`: it encodes transfer frames to slots and decodes counts.
 #![tactic(auto)]
 
+mod decode;
 mod encode;
 mod ending;
 mod geometry;
-mod line;
 mod run;
 #[cfg(test)]
 mod tests;

@@ -7,6 +7,8 @@ ghost use Rattle.hpe_cmd.specs.Words.{action_of, asked};
 pub enum Action {
     /// Encode transfer frames to slots.
     Encode,
+    /// Decode counts of slots to transfer frames.
+    Decode,
     /// Write the measures of the profile.
     Geometry,
 }
@@ -17,6 +19,7 @@ fn action_of(name: &str) -> Option<Action>
 {
     match name {
         "encode" => Some(Action::Encode),
+        "decode" => Some(Action::Decode),
         "geometry" => Some(Action::Geometry),
         _ => None,
     }
