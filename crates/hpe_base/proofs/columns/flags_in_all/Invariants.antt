@@ -2,7 +2,7 @@
 use Rattle.std.proofs.Common.{◌≡◌, ◌≤◌, ◌*◌, take}
 use Rattle.std.specs.Prelude.{sum_by}
 use Rattle.hpe_base.specs.Parameters.{flags_set}
-use Rattle.hpe_base.proofs.values.Values.flags.Given as goal
+use Rattle.hpe_base.proofs.columns.flags_in_all.Given as goal
 
 abbrev pub invariant-loop-column : goal.invariant-loop-column
 invariant-loop-column l = record {
