@@ -4,7 +4,7 @@ use mir.Syntax.{w16}
 use Rattle.hpe_base.specs.Sizes.{number_at}
 use Rattle.hpe_base.specs.SoftValues.{clamped}
 use Rattle.hpe_turn.proofs.Clamping.{saturated_clamped, clamped_kept}
-use Rattle.hpe_turn.proofs.extrinsic.extrinsic.Goals as goal
+use Rattle.hpe_turn.proofs.extrinsic.differences.Goals as goal
 
 pub loop-j-preserved : goal.loop-j-preserved
 loop-j-preserved c =
