@@ -11,6 +11,7 @@ channel_at-front p xs ys t h =
     let b : t - delay_at p t < length xs = omega arith in
     ap (λ (v : ℕ). if nat_le (delay_at p t) t then v else 0) (get_or_append_left xs ys 0 (t - delay_at p t) b)
 
+-- the channel interleaver keeps the number of symbols
 pub length-interleaved_channel : (p : Parameters) (xs : List ℕ) → length (interleaved_channel p xs) ≡ length xs
 unfolding interleaved_channel
 length-interleaved_channel p xs = length-tabulate (length xs) (channel_at p xs)

@@ -1,5 +1,5 @@
 -- Laws of the greatest score.
-use Rattle.std.proofs.Common.{◌≡◌, ℕ, ◌+◌, ◌<◌, ◌⊎◌, inl, inr, ⊎_elim, sym, ◌∙◌, ap, subst, arith, ℤ, ◌+ℤ◌, ◌≤ℤ◌, ◌<ℤ◌}
+use Rattle.std.proofs.Common.{◌≡◌, ℕ, ◌+◌, ◌<◌, ◌⊎◌, inl, inr, ⊎_elim, sym, ◌∙◌, subst, arith, ℤ, ◌+ℤ◌, ◌≤ℤ◌, ◌<ℤ◌}
 use Rattle.std.specs.Int.{int_max}
 use Rattle.std.proofs.lemmas.Int.{ints, clamps, by_lt_z}
 use borrow.Author.Count.{below_more}
@@ -10,21 +10,27 @@ pub record IsGreatestBelow (i : ℕ) (chosen : ℕ → Type 0) (score : ℕ → 
   pub reached : (v : ℕ) × (chosen v × (score v ≡ top))
   pub bound : (v : ℕ) → v < i → chosen v → score v ≤ℤ top
 
+-- the greater of two is at least the first
 pub max_left : (a b : ℤ) → a ≤ℤ int_max a b
 max_left a b = omega (arith, ints, clamps)
 
+-- and at least the second
 pub max_right : (a b : ℤ) → b ≤ℤ int_max a b
 max_right a b = omega (arith, ints, clamps)
 
+-- at most a number that is at most a third
 pub le_trans : (a b c : ℤ) → a ≤ℤ b → b ≤ℤ c → a ≤ℤ c
 le_trans a b c p q = omega (arith, ints)
 
+-- the same added to both
 pub plus_mono : (c a b : ℤ) → a ≤ℤ b → (c +ℤ a) ≤ℤ (c +ℤ b)
 plus_mono c a b h = omega (arith, ints)
 
+-- two that are at most each other are equal
 pub le_antisym : (a b : ℤ) → a ≤ℤ b → b ≤ℤ a → a ≡ b
 le_antisym a b p q = omega (arith, ints)
 
+-- the greater of two is one of them
 pub max_cases : (a b : ℤ) → (int_max a b ≡ a) ⊎ (int_max a b ≡ b)
 max_cases a b = by_lt_z b a (λ h. inl (omega (arith, ints, clamps))) (λ h. inr (omega (arith, ints, clamps)))
 
@@ -46,13 +52,6 @@ IsGreatest-carry {A} {B} {P} {f} {Q} {g} {t} there back h =
       bound = λ y q. let w = back y q in subst (λ (v : ℤ). v ≤ℤ t) w.1.1 (h.bound w.0 w.1.0);
     }
 
--- a constant in front
-pub IsGreatest-plus : {A : Type 0} {P : A → Type 0} {f : A → ℤ} {t : ℤ} (c : ℤ) → IsGreatest P f t → IsGreatest P (λ x. c +ℤ f x) (c +ℤ t)
-IsGreatest-plus {A} {P} {f} {t} c h = record {
-  reached = (h.reached.0, (h.reached.1.0, ap (λ (v : ℤ). c +ℤ v) h.reached.1.1));
-  bound = λ x p. plus_mono c (f x) t (h.bound x p);
-}
-
 -- the greater of the greatest of two sets is that of both together
 pub IsGreatest-join : {A : Type 0} {P Q R : A → Type 0} {f : A → ℤ} {s t : ℤ}
     → ((x : A) → P x → R x) → ((x : A) → Q x → R x) → ((x : A) → R x → P x ⊎ Q x)
@@ -69,27 +68,28 @@ IsGreatestBelow-take {i} {P} {f} {t} here g = record {
   bound = below_more (λ (v : ℕ). P v → f v ≤ℤ int_max t (f i)) i (λ v h p. le_trans _ _ _ (g.bound v h p) (max_left t (f i))) (λ _. max_right t (f i));
 }
 
+-- one place more that is not chosen
 pub IsGreatestBelow-pass : {i : ℕ} {P : ℕ → Type 0} {f : ℕ → ℤ} {t : ℤ} → (P i → ⊥) → IsGreatestBelow i P f t → IsGreatestBelow (i + 1) P f t
 IsGreatestBelow-pass {i} {P} {f} {t} here g = record {
   reached = g.reached;
   bound = below_more (λ (v : ℕ). P v → f v ≤ℤ t) i (λ v h p. g.bound v h p) (λ p. absurd (here p));
 }
 
+-- a search past all that are chosen
 pub IsGreatestBelow-all : {i : ℕ} {P : ℕ → Type 0} {f : ℕ → ℤ} {t : ℤ} → ((v : ℕ) → P v → v < i) → IsGreatestBelow i P f t → IsGreatest P f t
 IsGreatestBelow-all {i} {P} {f} {t} within g = record {
   reached = g.reached;
   bound = λ v p. g.bound v (within v p) p;
 }
 
+-- the same things by other words
 pub IsGreatest-widen : {A : Type 0} {P R : A → Type 0} {f : A → ℤ} {t : ℤ} → ((x : A) → P x → R x) → ((x : A) → R x → P x) → IsGreatest P f t → IsGreatest R f t
 IsGreatest-widen there back g = record {
   reached = (g.reached.0, (there _ g.reached.1.0, g.reached.1.1));
   bound = λ x r. g.bound x (back x r);
 }
 
-pub le_refl_z : (a : ℤ) → a ≤ℤ a
-le_refl_z a = omega (arith, ints)
-
+-- what is at most low is not at least y, which is more
 too_low : (z low y : ℤ) → z ≤ℤ low → low <ℤ y → y ≤ℤ z → ⊥
 too_low z low y h k l = omega (arith, ints)
 

@@ -8,8 +8,9 @@ use Rattle.std.proofs.lemmas.Nat.{mod-mul-add, mod_below, div-add-mod'}
 use Rattle.hpe_base.specs.Lists.{joined}
 use Rattle.hpe_base.specs.Parameters.{Parameters, IsValid, flags_set, code_steps, codeword_bits}
 use Rattle.hpe_base.specs.ConvolutionalCode.{selected, outputs, kept_at, code_bits}
-use Rattle.hpe_base.proofs.Tabulated.{joined-more, length-joined-none}
+use Rattle.hpe_base.proofs.Tabulated.{joined-more, joined-none}
 
+-- as many bits are selected as flags are set
 pub length-selected : (flags : List Bool) (bits : List ℕ) → length flags ≡ length bits → length (selected flags bits) ≡ flags_set flags
 length-selected [] bits h = refl
 length-selected (f ∷ flags) [] h = absurd (omega arith)
@@ -38,7 +39,7 @@ module _ (columns : List (List Bool)) (u : List ℕ) (some : 0 < length columns)
 
   -- t steps are q rounds of the columns and i steps
   rounds : (t q i : ℕ) → t ≡ q * length columns + i → i < length columns → length (joined t (kept_at columns u)) ≡ q * set_in (length columns) + set_in i
-  rounds zero zero i e h = let none : i ≡ 0 = omega arith in rw none (length-joined-none (kept_at columns u) ∙ omega arith)
+  rounds zero zero i e h = let none : i ≡ 0 = omega arith in rw none (ap length (joined-none (kept_at columns u)) ∙ omega arith)
   rounds zero (suc q) i e h = let round : suc q * length columns ≡ q * length columns + length columns = grind arith in absurd (omega arith)
   rounds (suc t) q (suc i) e h = let before : t ≡ q * length columns + i = omega arith in one_more t q i before (omega arith) (rounds t q i before (omega arith))
   rounds (suc t) zero zero e h = absurd (omega arith)
@@ -64,5 +65,5 @@ pub length-code_bits : (p : Parameters) (u : List ℕ) → IsValid p → length 
 length-code_bits p u valid h =
     let rest : sum_by flags_set (take (code_steps p.rate % length p.columns) p.columns) ≡ 0 =
     ap (λ n. sum_by flags_set (take n p.columns)) valid.column_count in
-    length-code_bits-steps p.columns u valid.columns_low valid.columns_whole (code_steps p.rate) h
+    length-code_bits-steps p.columns u valid.range.columns_low valid.range.columns_whole (code_steps p.rate) h
     ∙ (ap (λ n. code_steps p.rate / length p.columns * sum_by flags_set p.columns + n) rest ∙ (add-zero _ ∙ valid.kept_total))

@@ -4,8 +4,13 @@ pub mod Numbers
 pub mod Pieces
 pub mod ParameterLemmas
 pub mod KeptLength
+pub mod Shapes
+pub mod MarkerSearch
 pub mod Permutation
 pub mod Channels
+pub mod Counts
+pub mod Scaling
+pub mod Plain
 pub mod Periods
 pub mod EachPlace
 pub mod Validity

@@ -7,7 +7,9 @@ use Rattle.std.proofs.lemmas.List.{get_or_append_left, get_or-append_right}
 use Rattle.hpe_base.specs.Lists.{tabulate}
 use Rattle.hpe_base.specs.Parameters.{Parameters, sending_slots, symbol_slots, period_symbols, period_slots, codeword_symbols}
 use Rattle.hpe_base.specs.ChannelInterleaver.{interleaved_channel}
-use Rattle.hpe_base.specs.Slots.{slot_at, symbol_at, pulses_of, slots_to}
+use Rattle.hpe_base.specs.Slots.{slot_at, symbol_at, pulses_of, slots_to, symbol_octets, octets_to}
+use Rattle.hpe_base.proofs.Counts.{slot_octets, octets-flat}
+use Rattle.std.proofs.lemmas.List.Concat.{flat_map-append}
 use Rattle.hpe_base.proofs.Tabulated.{tabulate-append, tabulate-same, tabulate-none}
 use Rattle.hpe_base.proofs.Channels.{length-interleaved_channel}
 use Rattle.hpe_base.proofs.ParameterLemmas.{codeword_symbols-ge, positions-lt}
@@ -35,6 +37,7 @@ period_below n size q w place hs hq hw h =
     let b : place / w / q < n * size = div_below (place / w) q (n * size) hq a in
     div_below (place / w / q) size n hs b
 
+-- a place of the first n periods, less their markers, is within the symbols of n codewords
 within : (g n k s r len : ℕ) → g < n → r < k + s → 0 < s → len ≡ n * s → g * s + r - k < len
 within g n k s r len h hr hs e =
     let a : (g + 1) * s ≤ n * s = mul-le (g + 1) s n s (omega arith) (omega arith) in
@@ -125,3 +128,32 @@ slots_to-more p xs ys woven n repeat l w e =
     ∙ (tabulate-append (n * size) size f
     ∙ (ap (λ (s : List ℕ). s ++ tabulate size (λ i. f (n * size + i))) front
     ∙ ap (λ (s : List ℕ). tabulate (n * size) (slot_at p (interleaved_channel p xs)) ++ s) last))
+
+-- the octets of a symbol and of periods, by their slots
+symbol_octets-flat : (p : Parameters) (symbol : ℕ) → 0 < p.count_octets → symbol_octets p symbol ≡ flat_map (slot_octets p.count_octets) (pulses_of p symbol)
+unfolding symbol_octets pulses_of
+symbol_octets-flat p symbol h = octets-flat p.count_octets (symbol_slots p) (λ i. if i % sending_slots p.order == symbol then 1 else 0) h
+
+-- the octets of all slots, one slot after another
+pub octets_to-flat : (p : Parameters) (n : ℕ) (xs : List ℕ) → 0 < p.count_octets → octets_to p n xs ≡ flat_map (slot_octets p.count_octets) (slots_to p n xs)
+unfolding octets_to slots_to
+octets_to-flat p n xs h = octets-flat p.count_octets (n * period_slots p) (slot_at p (interleaved_channel p xs)) h
+
+-- and one symbol after another
+symbols-flat : (p : Parameters) (xs : List ℕ) → 0 < p.count_octets → flat_map (slot_octets p.count_octets) (flat_map (pulses_of p) xs) ≡ flat_map (symbol_octets p) xs
+symbols-flat p [] h = refl
+symbols-flat p (x ∷ xs) h =
+    flat_map-append (slot_octets p.count_octets) (pulses_of p x) (flat_map (pulses_of p) xs)
+    ∙ (ap (λ ys. ys ++ flat_map (slot_octets p.count_octets) (flat_map (pulses_of p) xs)) (sym (symbol_octets-flat p x h))
+    ∙ ap (λ ys. symbol_octets p x ++ ys) (symbols-flat p xs h))
+
+-- one period more, as octets
+pub octets_to-more : (p : Parameters) (xs ys woven : List ℕ) (n : ℕ) → 0 < p.repeat → 0 < p.count_octets → length xs ≡ n * codeword_symbols p.order →
+    length woven ≡ codeword_symbols p.order → interleaved_channel p (xs ++ ys) ≡ interleaved_channel p xs ++ woven →
+    octets_to p (n + 1) (xs ++ ys) ≡ octets_to p n xs ++ flat_map (symbol_octets p) (p.marker ++ woven)
+octets_to-more p xs ys woven n repeat some l w e =
+    octets_to-flat p (n + 1) (xs ++ ys) some
+    ∙ (ap (flat_map (slot_octets p.count_octets)) (slots_to-more p xs ys woven n repeat l w e)
+    ∙ (flat_map-append (slot_octets p.count_octets) (slots_to p n xs) (flat_map (pulses_of p) (p.marker ++ woven))
+    ∙ (ap (λ zs. zs ++ flat_map (slot_octets p.count_octets) (flat_map (pulses_of p) (p.marker ++ woven))) (sym (octets_to-flat p n xs some))
+    ∙ ap (λ zs. octets_to p n xs ++ zs) (symbols-flat p (p.marker ++ woven) some))))

@@ -1,9 +1,11 @@
 -- The code interleaver is a permutation.
 use Rattle.std.proofs.Common.{◌≡◌, ◌+◌, ◌<◌, ℕ, Bool, refl, true, eqb, arith, length, get_or, ◌∙◌, sym, ap}
+use Rattle.std.proofs.Math.Nat.{mod-lt}
 use Rattle.std.specs.List.{range_with_len, list_all}
 use Rattle.std.proofs.lemmas.Bool.{eqb-true}
 use Rattle.std.proofs.lemmas.List.Sums.{AllPass-from_list_all}
 use Rattle.std.proofs.lemmas.List.FromFn.{length-range_with_len, get_or-range_with_len}
+use Rattle.hpe_base.specs.Parameters.{codeword_bits}
 use Rattle.hpe_base.specs.CodeInterleaver.{pi, pi_inverse}
 
 -- a test that passes on all numbers below n passes at each
@@ -18,6 +20,7 @@ passes_at p n k all h =
 undone : list_all (λ j. eqb (pi_inverse (pi j)) j) (range_with_len 0 15120) ≡ true
 undone = refl
 
+-- the other way round
 redone : list_all (λ e. eqb (pi (pi_inverse e)) e) (range_with_len 0 15120) ≡ true
 redone = refl
 
@@ -28,3 +31,11 @@ pi_inverse-pi j h = eqb-true _ _ (passes_at (λ j. eqb (pi_inverse (pi j)) j) 15
 -- pi undoes pi_inverse
 pub pi-pi_inverse : (e : ℕ) → e < 15120 → pi (pi_inverse e) ≡ e
 pi-pi_inverse e h = eqb-true _ _ (passes_at (λ e. eqb (pi (pi_inverse e)) e) 15120 e redone h)
+
+-- pi stays within the codeword
+pub pi-lt : (j : ℕ) → pi j < codeword_bits
+pi-lt j = mod-lt _ (omega arith)
+
+-- and so does pi_inverse
+pub pi_inverse-lt : (e : ℕ) → pi_inverse e < codeword_bits
+pi_inverse-lt e = mod-lt _ (omega arith)

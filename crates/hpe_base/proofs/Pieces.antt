@@ -8,6 +8,7 @@ use Rattle.hpe_base.specs.Lists.{tabulate, joined}
 use Rattle.hpe_base.proofs.Tabulated.{tabulate-none, tabulate-suc, tabulate_from_places, joined-same, joined-tabulate}
 
 module _ {X A : Type 0} (f : X → List A) (m : ℕ) (each : (x : X) → length (f x) ≡ m) where
+  -- as many pieces of m as there are elements
   pub length-flat_map-each : (xs : List X) → length (flat_map f xs) ≡ length xs * m
   length-flat_map-each [] = omega arith
   length-flat_map-each (x ∷ xs) =
@@ -35,6 +36,7 @@ pub flat_map-take_more : {X A : Type 0} (f : X → List A) (xs : List X) (i : �
 flat_map-take_more f xs i d h =
     ap (flat_map f) (take_more xs i d h) ∙ (flat_map-append f (take i xs) (get_or xs i d ∷ []) ∙ ap (λ ys. flat_map f (take i xs) ++ ys) (append-nil (f (get_or xs i d))))
 
+-- pieces of the values of places, joined
 pub flat_map-tabulate : {X A : Type 0} (f : X → List A) (n : ℕ) (g : ℕ → X) → flat_map f (tabulate n g) ≡ joined n (λ s. f (g s))
 unfolding joined
 flat_map-tabulate f zero g = ap (flat_map f) (tabulate-none g)
@@ -49,6 +51,7 @@ length-piece xs a m h =
     let size : a + m - a ≡ m = omega arith in
     ap (λ n. length (take n (drop a xs))) size ∙ length-take-le m (drop a xs) (omega (arith, length-drop a xs))
 
+-- a part of a list by its places
 piece_tabulated : (xs : List ℕ) (a m : ℕ) → a + m ≤ length xs → slice_range xs a (a + m) ≡ tabulate m (λ i. get_or xs (a + i) 0)
 piece_tabulated xs a m h =
     let size : m ≤ a + m - a = omega arith in

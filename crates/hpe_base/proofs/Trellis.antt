@@ -1,34 +1,48 @@
 -- The greatest score of all paths, from a forward row, the edges of a stage and a backward row.
-use Rattle.std.proofs.Common.{◌≡◌, ℕ, zero, suc, ◌+◌, ◌<◌, sym, ◌∙◌, ap, subst, refl, arith, ℤ, pos, ◌+ℤ◌, ◌≤ℤ◌, List, [], ◌∷◌, ◌++◌, length, get_or, add-zero, zero-add}
+use Rattle.std.proofs.Common.{◌≡◌, ℕ, zero, suc, ◌+◌, ◌<◌, sym, ◌∙◌, ap, subst, refl, arith, ℤ, pos, ◌+ℤ◌, ◌≤ℤ◌, List, [], ◌∷◌, ◌++◌, length, get_or, replicate, add-zero, zero-add}
+use Rattle.std.proofs.Math.Nat.{suc-add}
+use Rattle.std.proofs.Math.IntN.{+ℤ_assoc, +ℤ_idl, +ℤ_idr}
+use Rattle.std.proofs.lemmas.Bool.Decides.{nat_tests}
 use Rattle.std.proofs.lemmas.Int.{ints}
 use Rattle.hpe_base.specs.Greatest.{IsGreatest}
+use Rattle.hpe_base.specs.Bits.{AreBits}
 use Rattle.hpe_base.specs.Trellis.{walk, ends, IsPath, IsEdge, state_at}
+use Rattle.hpe_base.specs.ConvolutionalCode.{earlier}
+use Rattle.hpe_base.specs.PathScores.{chosen_sum}
+use Rattle.hpe_base.proofs.BitLists.{are_bits-none, are_bits-cons, are_bits-tail}
 
-add_assoc_z : (a b c : ℤ) → (a +ℤ b) +ℤ c ≡ a +ℤ (b +ℤ c)
-add_assoc_z a b c = omega (arith, ints)
+-- the stages from t on: one, and those from the next
+pub stage-suc : (t n : ℕ) → t + suc n ≡ t + 1 + n
+stage-suc t n = omega arith
 
-zero_add_z : (a : ℤ) → a ≡ pos 0 +ℤ a
-zero_add_z a = omega (arith, ints)
+-- a path between ends that score nothing
+pub zero-walk-zero : (w : ℤ) → (pos 0 +ℤ w) +ℤ pos 0 ≡ w
+zero-walk-zero w = +ℤ_idr (pos 0 +ℤ w) ∙ +ℤ_idl w
 
-pub suc_add : (a b : ℕ) → suc (a + b) ≡ suc a + b
-suc_add a b = omega arith
+-- the numbers of no bit
+pub chosen_sum-none : (l : List ℤ) → chosen_sum l [] ≡ pos 0
+chosen_sum-none [] = refl
+chosen_sum-none (z ∷ l) = refl
 
-one_more : (t n : ℕ) → t + 1 + n ≡ t + suc n
-one_more t n = omega arith
+-- the bit that enters at a step
+pub earlier-none : (u : List ℕ) (t : ℕ) → earlier u t 0 ≡ get_or u t 0
+earlier-none u t = grind (arith, nat_tests)
 
 -- a path in two parts
 pub walk-append : (edge : ℕ → ℕ → ℕ → ℤ) (next : ℕ → ℕ → ℕ) (t p : ℕ) (us vs : List ℕ)
     → walk edge next t p (us ++ vs) ≡ walk edge next t p us +ℤ walk edge next (t + length us) (ends next p us) vs
-walk-append edge next t p [] vs = zero_add_z (walk edge next t p vs) ∙ ap (λ (k : ℕ). pos 0 +ℤ walk edge next k p vs) (sym (add-zero t))
+walk-append edge next t p [] vs = sym (+ℤ_idl (walk edge next t p vs)) ∙ ap (λ (k : ℕ). pos 0 +ℤ walk edge next k p vs) (sym (add-zero t))
 walk-append edge next t p (u ∷ us) vs =
     ap (λ (z : ℤ). edge t p u +ℤ z) (walk-append edge next (t + 1) (next p u) us vs)
-    ∙ sym (add_assoc_z (edge t p u) (walk edge next (t + 1) (next p u) us) (walk edge next (t + 1 + length us) (ends next (next p u) us) vs))
-    ∙ ap (λ (k : ℕ). (edge t p u +ℤ walk edge next (t + 1) (next p u) us) +ℤ walk edge next k (ends next (next p u) us) vs) (one_more t (length us))
+    ∙ sym (+ℤ_assoc (edge t p u) (walk edge next (t + 1) (next p u) us) (walk edge next (t + 1 + length us) (ends next (next p u) us) vs))
+    ∙ ap (λ (k : ℕ). (edge t p u +ℤ walk edge next (t + 1) (next p u) us) +ℤ walk edge next k (ends next (next p u) us) vs) (sym (stage-suc t (length us)))
 
+-- the state after both parts of a path
 pub ends-append : (next : ℕ → ℕ → ℕ) (p : ℕ) (us vs : List ℕ) → ends next p (us ++ vs) ≡ ends next (ends next p us) vs
 ends-append next p [] vs = refl
 ends-append next p (u ∷ us) vs = ends-append next (next p u) us vs
 
+-- a path stays among the states
 pub ends-below : (size states n : ℕ) (next : ℕ → ℕ → ℕ) → ((p u : ℕ) → p < states → u < size → next p u < states)
     → (p : ℕ) (us : List ℕ) → p < states → IsPath size n us → ends next p us < states
 ends-below size states zero next h p [] low all = low
@@ -36,18 +50,23 @@ ends-below size states zero next h p (u ∷ us) low all = absurd all
 ends-below size states (suc n) next h p [] low all = absurd all
 ends-below size states (suc n) next h p (u ∷ us) low all = ends-below size states n next h (next p u) us (h p u low all.0) all.1
 
+-- the greatest of all paths of n inputs on from stage t and state p, the states at the end scoring `fin`
 abbrev pub Back : ℕ → (ℕ → ℕ → ℕ → ℤ) → (ℕ → ℕ → ℕ) → (ℕ → ℤ) → ℕ → ℕ → ℕ → ℤ → Type 0
 Back size edge next fin t n p b = IsGreatest (IsPath size n) (λ us. walk edge next t p us +ℤ fin (ends next p us)) b
 
+-- the score of an edge in front of a path
 regroup : (e w f b : ℤ) → w +ℤ f ≡ b → (e +ℤ w) +ℤ f ≡ e +ℤ b
 regroup e w f b h = omega (arith, ints)
 
+-- the same with bounds
 regroup_le : (e w f b z : ℤ) → (w +ℤ f) ≤ℤ b → (e +ℤ b) ≤ℤ z → ((e +ℤ w) +ℤ f) ≤ℤ z
 regroup_le e w f b z h k = omega (arith, ints)
 
+-- nothing and f is at most f
 zero_le_z : (f : ℤ) → (pos 0 +ℤ f) ≤ℤ f
 zero_le_z f = omega (arith, ints)
 
+-- no stage is left
 none_left : (size : ℕ) (edge : ℕ → ℕ → ℕ → ℤ) (next : ℕ → ℕ → ℕ) (fin : ℕ → ℤ) (t p : ℕ) (us : List ℕ) → IsPath size 0 us → (walk edge next t p us +ℤ fin (ends next p us)) ≤ℤ fin p
 none_left size edge next fin t p [] h = zero_le_z (fin p)
 none_left size edge next fin t p (u ∷ us) h = absurd h
@@ -55,12 +74,13 @@ none_left size edge next fin t p (u ∷ us) h = absurd h
 -- after the last stage the backward row is what the states score by themselves
 pub back_last : (size : ℕ) (edge : ℕ → ℕ → ℕ → ℤ) (next : ℕ → ℕ → ℕ) (fin : ℕ → ℤ) (t p : ℕ) → Back size edge next fin t 0 p (fin p)
 back_last size edge next fin t p = record {
-  reached = ([], (tt, sym (zero_add_z (fin p))));
+  reached = ([], (tt, +ℤ_idl (fin p)));
   bound = none_left size edge next fin t p;
 }
 
 module _ (size states : ℕ) (edge : ℕ → ℕ → ℕ → ℤ) (next : ℕ → ℕ → ℕ) (fin : ℕ → ℤ)
     (stays : (p u : ℕ) → p < states → u < size → next p u < states) where
+  -- no path that goes on from a stage scores more than the best edge with the row behind it
   back_bound : (t n p : ℕ) (b : ℤ) (row : ℕ → ℤ) → p < states
       → ((q : ℕ) → q < states → Back size edge next fin (t + 1) n q (row q))
       → ((u : ℕ) → u < size → (edge t p u +ℤ row (next p u)) ≤ℤ b)
@@ -90,32 +110,49 @@ IsRun size states n r = (r.0 < states) × IsPath size n r.1
 abbrev pub Fore : ℕ → ℕ → (ℕ → ℕ → ℕ → ℤ) → (ℕ → ℕ → ℕ) → (ℕ → ℤ) → ℕ → ℕ → ℤ → Type 0
 Fore size states edge next init t q f = IsGreatest (λ (r : ℕ × List ℕ). IsRun size states t r × (ends next r.0 r.1 ≡ q)) (λ r. init r.0 +ℤ walk edge next 0 r.0 r.1) f
 
-add_zero_z : (a : ℤ) → (a +ℤ pos 0) ≡ a
-add_zero_z a = omega (arith, ints)
-
 -- before the first stage
 none_yet : (size states : ℕ) (edge : ℕ → ℕ → ℕ → ℤ) (next : ℕ → ℕ → ℕ) (init : ℕ → ℤ) (q p : ℕ) (us : List ℕ) → IsPath size 0 us → ends next p us ≡ q → (init p +ℤ walk edge next 0 p us) ≤ℤ init q
 none_yet size states edge next init q p [] h e = subst (λ (k : ℕ). (init p +ℤ pos 0) ≤ℤ init k) e (let z : (init p +ℤ pos 0) ≤ℤ init p = omega (arith, ints) in z)
 none_yet size states edge next init q p (u ∷ us) h e = absurd h
 
+-- before the first stage the forward row is what the states score by themselves
 pub fore_first : (size states : ℕ) (edge : ℕ → ℕ → ℕ → ℤ) (next : ℕ → ℕ → ℕ) (init : ℕ → ℤ) (q : ℕ) → q < states → Fore size states edge next init 0 q (init q)
 fore_first size states edge next init q low = record {
-  reached = ((q, []), (((low, tt), refl), add_zero_z (init q)));
+  reached = ((q, []), (((low, tt), refl), +ℤ_idr (init q)));
   bound = λ r h. none_yet size states edge next init q r.0 r.1 h.0.1 h.1;
 }
 
+-- a path after another
 pub path-append : (size a b : ℕ) (us vs : List ℕ) → IsPath size a us → IsPath size b vs → IsPath size (a + b) (us ++ vs)
 path-append size zero b [] vs h k = subst (λ (n : ℕ). IsPath size n vs) (sym (zero-add b)) k
 path-append size zero b (u ∷ us) vs h k = absurd h
 path-append size (suc a) b [] vs h k = absurd h
-path-append size (suc a) b (u ∷ us) vs h k = subst (λ (n : ℕ). IsPath size n (u ∷ us ++ vs)) (suc_add a b) (h.0, path-append size a b us vs h.1 k)
+path-append size (suc a) b (u ∷ us) vs h k = subst (λ (n : ℕ). IsPath size n (u ∷ us ++ vs)) (sym (suc-add a b)) (h.0, path-append size a b us vs h.1 k)
 
+-- bits are a path of as many inputs
+pub bits_path : (bits : List ℕ) → AreBits bits → IsPath 2 (length bits) bits
+bits_path [] h = tt
+bits_path (b ∷ bits) h = (h 0 0 (omega arith), bits_path bits (are_bits-tail b bits h))
+
+-- and a path is bits
+pub path_bits : (n : ℕ) (bits : List ℕ) → IsPath 2 n bits → AreBits bits
+path_bits n [] h = are_bits-none
+path_bits zero (b ∷ bits) h = absurd h
+path_bits (suc n) (b ∷ bits) h = are_bits-cons b bits h.0 (path_bits n bits h.1)
+
+-- a path that takes one input again and again
+pub replicate-path : (size k b : ℕ) → b < size → IsPath size k (replicate k b)
+replicate-path size zero b h = tt
+replicate-path size (suc k) b h = (h, replicate-path size k b h)
+
+-- a path of n inputs has n
 pub path-length : (size n : ℕ) (us : List ℕ) → IsPath size n us → length us ≡ n
 path-length size zero [] h = refl
 path-length size zero (u ∷ us) h = absurd h
 path-length size (suc n) [] h = absurd h
 path-length size (suc n) (u ∷ us) h = ap suc (path-length size n us h.1)
 
+-- a path of no input is empty
 path_none : (size : ℕ) (us : List ℕ) → IsPath size 0 us → us ≡ []
 path_none size [] h = refl
 path_none size (u ∷ us) h = absurd h
@@ -130,23 +167,26 @@ pub record Cut (size a b : ℕ) (us : List ℕ) : Type 0 where
   pub rest_path : IsPath size b rest
   pub whole : us ≡ front ++ here ∷ rest
 
+-- each path has such parts
 pub cut : (size a b : ℕ) (us : List ℕ) → IsPath size (a + suc b) us → Cut size a b us
 cut size zero b [] h = absurd (subst (λ (n : ℕ). IsPath size n []) (zero-add (suc b)) h)
 cut size zero b (u ∷ us) h =
     let k = subst (λ (n : ℕ). IsPath size n (u ∷ us)) (zero-add (suc b)) h in
     record { front = []; here = u; rest = us; front_path = tt; here_low = k.0; rest_path = k.1; whole = refl }
-cut size (suc a) b [] h = absurd (subst (λ (n : ℕ). IsPath size n []) (sym (suc_add a (suc b))) h)
+cut size (suc a) b [] h = absurd (subst (λ (n : ℕ). IsPath size n []) (suc-add a (suc b)) h)
 cut size (suc a) b (u ∷ us) h =
-    let k = subst (λ (n : ℕ). IsPath size n (u ∷ us)) (sym (suc_add a (suc b))) h in
+    let k = subst (λ (n : ℕ). IsPath size n (u ∷ us)) (suc-add a (suc b)) h in
     let c = cut size a b us k.1 in
     record { front = u ∷ c.front; here = c.here; rest = c.rest; front_path = (k.0, c.front_path); here_low = c.here_low; rest_path = c.rest_path; whole = ap (λ (vs : List ℕ). u ∷ vs) c.whole }
 
+-- the state before stage a, and the input there, where a path of a inputs is in front
 pub state-append : (next : ℕ → ℕ → ℕ) (size a p : ℕ) (us vs : List ℕ) → IsPath size a us → state_at next p (us ++ vs) a ≡ ends next p us
 state-append next size zero p [] vs h = refl
 state-append next size zero p (u ∷ us) vs h = absurd h
 state-append next size (suc a) p [] vs h = absurd h
 state-append next size (suc a) p (u ∷ us) vs h = state-append next size a (next p u) us vs h.1
 
+-- the input of that stage
 pub input-append : (size a u : ℕ) (us vs : List ℕ) → IsPath size a us → get_or (us ++ u ∷ vs) a 0 ≡ u
 input-append size zero u [] vs h = refl
 input-append size zero u (w ∷ us) vs h = absurd h
@@ -160,23 +200,29 @@ walk-through edge next size t p u us vs h =
     walk-append edge next 0 p us (u ∷ vs)
     ∙ ap (λ (k : ℕ). walk edge next 0 p us +ℤ (edge k (ends next p us) u +ℤ walk edge next (k + 1) (next (ends next p us) u) vs)) (zero-add (length us) ∙ path-length size t us h)
 
+-- the state after one input more
 ends_one : (next : ℕ → ℕ → ℕ) (p u : ℕ) (us : List ℕ) → ends next p (us ++ u ∷ []) ≡ next (ends next p us) u
 ends_one next p u us = ends-append next p us (u ∷ [])
 
+-- the score of a run and of an edge behind it
 in_front : (i w e f z : ℤ) → i +ℤ w ≡ f → f +ℤ e ≡ z → i +ℤ (w +ℤ (e +ℤ pos 0)) ≡ z
 in_front i w e f z h k = omega (arith, ints)
 
+-- the same with bounds
 in_front_le : (i w e f z : ℤ) → (i +ℤ w) ≤ℤ f → (f +ℤ e) ≤ℤ z → (i +ℤ (w +ℤ (e +ℤ pos 0))) ≤ℤ z
 in_front_le i w e f z h k = omega (arith, ints)
 
+-- the score of a run, of an edge and of a path behind it
 around : (i w e v f g b z : ℤ) → i +ℤ w ≡ g → v +ℤ f ≡ b → g +ℤ (e +ℤ b) ≡ z → (i +ℤ (w +ℤ (e +ℤ v))) +ℤ f ≡ z
 around i w e v f g b z h k l = omega (arith, ints)
 
+-- the same with bounds
 around_le : (i w e v f g b z : ℤ) → (i +ℤ w) ≤ℤ g → (v +ℤ f) ≤ℤ b → (g +ℤ (e +ℤ b)) ≤ℤ z → ((i +ℤ (w +ℤ (e +ℤ v))) +ℤ f) ≤ℤ z
 around_le i w e v f g b z h k l = omega (arith, ints)
 
 module _ (size states : ℕ) (edge : ℕ → ℕ → ℕ → ℤ) (next : ℕ → ℕ → ℕ) (init : ℕ → ℤ)
     (stays : (p u : ℕ) → p < states → u < size → next p u < states) where
+  -- the best edge into a state, behind the best run to where it leaves, is a run with that score
   fore_reached : (t q : ℕ) (f : ℤ) (row : ℕ → ℤ)
       → ((p : ℕ) → p < states → Fore size states edge next init t p (row p))
       → IsGreatest (λ (e : ℕ × ℕ). IsEdge size states e × (next e.0 e.1 ≡ q)) (λ e. row e.0 +ℤ edge t e.0 e.1) f
@@ -197,6 +243,7 @@ module _ (size states : ℕ) (edge : ℕ → ℕ → ℕ → ℤ) (next : ℕ �
         ),
       )
 
+  -- and no run scores more
   fore_bound : (t q : ℕ) (f : ℤ) (row : ℕ → ℤ)
       → ((p : ℕ) → p < states → Fore size states edge next init t p (row p))
       → ((e : ℕ × ℕ) → IsEdge size states e × (next e.0 e.1 ≡ q) → (row e.0 +ℤ edge t e.0 e.1) ≤ℤ f)
@@ -226,6 +273,7 @@ module _ (size states : ℕ) (edge : ℕ → ℕ → ℕ → ℤ) (next : ℕ �
   module _ (fin : ℕ → ℤ) (class : ℕ → ℕ → Type 0) (t b : ℕ) (row back : ℕ → ℤ)
       (so_far : (p : ℕ) → p < states → Fore size states edge next init t p (row p))
       (later : (p : ℕ) → p < states → Back size edge next fin (t + 1) b p (back p)) where
+    -- the best edge of the class, between the best run before it and the best path behind it, is a run with that score
     meet_reached : (z : ℤ)
         → IsGreatest (λ (e : ℕ × ℕ). IsEdge size states e × class e.0 e.1) (λ e. row e.0 +ℤ (edge t e.0 e.1 +ℤ back (next e.0 e.1))) z
         → (r : ℕ × List ℕ) × ((IsRun size states (t + suc b) r × class (state_at next r.0 r.1 t) (get_or r.1 t 0)) × ((init r.0 +ℤ walk edge next 0 r.0 r.1) +ℤ fin (ends next r.0 r.1) ≡ z))
@@ -252,6 +300,7 @@ module _ (size states : ℕ) (edge : ℕ → ℕ → ℕ → ℤ) (next : ℕ �
           ),
         )
 
+    -- and no run through the class scores more
     meet_bound : (z : ℤ)
         → ((e : ℕ × ℕ) → IsEdge size states e × class e.0 e.1 → (row e.0 +ℤ (edge t e.0 e.1 +ℤ back (next e.0 e.1))) ≤ℤ z)
         → (r : ℕ × List ℕ) → IsRun size states (t + suc b) r × class (state_at next r.0 r.1 t) (get_or r.1 t 0) → ((init r.0 +ℤ walk edge next 0 r.0 r.1) +ℤ fin (ends next r.0 r.1)) ≤ℤ z

@@ -20,20 +20,22 @@ passes ((x, true) ∷ tests) zero d h b = refl
 passes ((x, true) ∷ tests) (suc i) d h b = passes tests i d h (omega arith)
 passes ((x, false) ∷ tests) i d h b = cc
 
--- the parts of a conjunction of tests
+-- one part of a conjunction of tests
 both-left : (a b : Bool) → (a && b) ≡ true → a ≡ true
 both-left true b h = refl
 both-left false b h = h
 
+-- the other part
 both-right : (a b : Bool) → (a && b) ≡ true → b ≡ true
 both-right true b h = h
 both-right false b h = cc
 
--- the bounds of a number within a range
+-- a number within a range is bounded below
 within-low : (low high : ℕ) (z : ℤ) → within low high z ≡ true → low ≤ unsigned_abs z
 within-low low high (pos n) h = grind arith
 within-low low high (negsuc n) h = grind arith
 
+-- and above
 within-high : (low high : ℕ) (z : ℤ) → within low high z ≡ true → unsigned_abs z ≤ high
 within-high low high (pos n) h = grind arith
 within-high low high (negsuc n) h = grind arith
@@ -47,7 +49,7 @@ columns-whole text = λ k d b.
 -- where no key is out of its range, the parameters are within theirs
 pub in_range : (f : Fields) → first_out_of_range f ≡ None → IsInRange (parameters_of f)
 in_range f h =
-    let at : (i : ℕ) → i < 14 → (get_or (ranges f) i (key.Order, true)).1 ≡ true = λ i b. passes (ranges f) i (key.Order, true) h b in
+    let at : (i : ℕ) → i < 16 → (get_or (ranges f) i (key.Order, true)).1 ≡ true = λ i b. passes (ranges f) i (key.Order, true) h b in
     let word : within 1 (2 ^ 32 - 1) f.check ≡ true = both-left _ (unsigned_abs f.check % 2 == 1) (at 6 (lit< tt)) in
     let odd : unsigned_abs f.check % 2 ≡ 1 = eqb-true (unsigned_abs f.check % 2) 1 (both-right (within 1 (2 ^ 32 - 1) f.check) _ (at 6 (lit< tt))) in
     let text : List ℕ = f.columns.now in
@@ -82,22 +84,29 @@ in_range f h =
       rounds_high = within-high 1 64 f.rounds (at 12 (lit< tt));
       search_low = within-low 1 4 f.search (at 13 (lit< tt));
       search_high = within-high 1 4 f.search (at 13 (lit< tt));
+      count_octets_low = within-low 1 2 f.count_octets (at 14 (lit< tt));
+      count_octets_high = within-high 1 2 f.count_octets (at 14 (lit< tt));
+      scale_low = within-low 1 8 f.scale (at 15 (lit< tt));
+      scale_high = within-high 1 8 f.scale (at 15 (lit< tt));
     }
 
 -- the same of equal parameters
 pub IsInRange-along : (p q : Parameters) → p ≡ q → IsInRange q → IsInRange p
 IsInRange-along p q e h = subst IsInRange (sym e) h
 
--- and the order, the rate, the columns and the marker can be read
+-- and the order can be read
 pub order-some : (f : Fields) → first_out_of_range f ≡ None → is_some (order_of f.order) ≡ true
 order-some f h = passes (ranges f) 0 (key.Order, true) h (lit< tt)
 
+-- the rate can be read
 pub rate-some : (f : Fields) → first_out_of_range f ≡ None → is_some (rate_of f.rate.now) ≡ true
 rate-some f h = passes (ranges f) 1 (key.Order, true) h (lit< tt)
 
+-- the columns are written as they should be
 pub columns-right : (f : Fields) → first_out_of_range f ≡ None → is_columns f.columns.now ≡ true
 columns-right f h = passes (ranges f) 7 (key.Order, true) h (lit< tt)
 
+-- the marker has pulse positions alone
 pub marker-right : (f : Fields) → first_out_of_range f ≡ None → is_marker f.marker.now ≡ true
 marker-right f h = passes (ranges f) 10 (key.Order, true) h (lit< tt)
 
@@ -108,29 +117,7 @@ is_valid p r h =
     let set : AllPass (λ column. nat_le 1 (flags_set column)) p.columns = AllPass-from_list_all (λ column. nat_le 1 (flags_set column)) p.columns (at 0 (lit< tt)) in
     let low : AllPass (λ v. nat_lt v (positions p.order)) p.marker = AllPass-from_list_all (λ v. nat_lt v (positions p.order)) p.marker (at 4 (lit< tt)) in
     record {
-      frame_low = r.frame_low;
-      frame_high = r.frame_high;
-      frame_marker_low = r.frame_marker_low;
-      frame_marker_high = r.frame_marker_high;
-      taps_high = r.taps_high;
-      seed_high = r.seed_high;
-      check_odd = r.check_odd;
-      check_high = r.check_high;
-      columns_low = r.columns_low;
-      columns_high = r.columns_high;
-      columns_whole = r.columns_whole;
-      rows_low = r.rows_low;
-      rows_high = r.rows_high;
-      delay_low = r.delay_low;
-      delay_high = r.delay_high;
-      marker_low = r.marker_low;
-      marker_high = r.marker_high;
-      repeat_low = r.repeat_low;
-      repeat_high = r.repeat_high;
-      rounds_low = r.rounds_low;
-      rounds_high = r.rounds_high;
-      search_low = r.search_low;
-      search_high = r.search_high;
+      range = r;
       column_set = λ k d b. leb-true 1 (flags_set (get_or p.columns k d)) (set k d b);
       column_count = eqb-true (code_steps p.rate % length p.columns) 0 (at 1 (lit< tt));
       kept_total = eqb-true (code_steps p.rate / length p.columns * sum_by flags_set p.columns) codeword_bits (at 2 (lit< tt));

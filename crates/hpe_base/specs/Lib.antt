@@ -14,6 +14,7 @@ pub mod Accumulator
 pub mod Mapper
 pub mod Codeword
 pub mod ChannelInterleaver
+pub mod Counts
 pub mod Slots
 pub mod Validity
 pub mod MarkerSearch

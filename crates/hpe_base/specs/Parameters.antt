@@ -37,6 +37,10 @@ code_steps TwoThirds = 10080
 abbrev pub block_bits : Rate → ℕ
 block_bits r = code_steps r - 34
 
+-- the bits of the outer code that are free: its steps, less the two that end it
+abbrev pub information_bits : Rate → ℕ
+information_bits r = code_steps r - 2
+
 -- the parameters of a link
 pub record Parameters : Type 0 where
   pub order : Order
@@ -53,6 +57,12 @@ pub record Parameters : Type 0 where
   pub repeat : ℕ
   pub rounds : ℕ
   pub search : ℕ
+  pub count_octets : ℕ
+  pub scale : ℕ
+
+-- the greatest sum of the counts of a slot, and the greatest size of a number that one code hands to the other
+abbrev pub clamp : ℕ
+clamp = 16383
 
 -- the slots of one sending of a symbol: its pulse positions, and a quarter as many guard slots
 abbrev pub sending_slots : Order → ℕ
@@ -104,32 +114,14 @@ pub record IsInRange (p : Parameters) : Type 0 where
   pub rounds_high : p.rounds ≤ 64
   pub search_low : 1 ≤ p.search
   pub search_high : p.search ≤ 4
+  pub count_octets_low : 1 ≤ p.count_octets
+  pub count_octets_high : p.count_octets ≤ 2
+  pub scale_low : 1 ≤ p.scale
+  pub scale_high : p.scale ≤ 8
 
 -- the parameters are within their ranges and agree with each other
 pub record IsValid (p : Parameters) : Type 0 where
-  pub frame_low : 1 ≤ p.frame_octets
-  pub frame_high : p.frame_octets ≤ 65536
-  pub frame_marker_low : 1 ≤ p.frame_marker
-  pub frame_marker_high : p.frame_marker < 2 ^ 32
-  pub taps_high : p.taps < 256
-  pub seed_high : p.seed < 256
-  pub check_odd : p.check % 2 ≡ 1
-  pub check_high : p.check < 2 ^ 32
-  pub columns_low : 1 ≤ length p.columns
-  pub columns_high : length p.columns ≤ 12
-  pub columns_whole : All (λ column. length column ≡ 3) p.columns
-  pub rows_low : 1 ≤ p.rows
-  pub rows_high : p.rows ≤ 64
-  pub delay_low : 1 ≤ p.delay
-  pub delay_high : p.delay ≤ 2 ^ 23
-  pub marker_low : 1 ≤ length p.marker
-  pub marker_high : length p.marker ≤ 64
-  pub repeat_low : 1 ≤ p.repeat
-  pub repeat_high : p.repeat ≤ 32
-  pub rounds_low : 1 ≤ p.rounds
-  pub rounds_high : p.rounds ≤ 64
-  pub search_low : 1 ≤ p.search
-  pub search_high : p.search ≤ 4
+  pub range : IsInRange p
   pub column_set : All (λ column. 1 ≤ flags_set column) p.columns
   pub column_count : code_steps p.rate % length p.columns ≡ 0
   pub kept_total : code_steps p.rate / length p.columns * sum_by flags_set p.columns ≡ codeword_bits
@@ -155,4 +147,6 @@ basic = record {
   repeat = 1;
   rounds = 16;
   search = 1;
+  count_octets = 1;
+  scale = 8;
 }

@@ -1,15 +1,15 @@
 -- From counts to the sums of each received codeword.
-use Rattle.std.specs.Prelude.{ℕ, ◌+◌, ◌-◌, ◌*◌, ◌/◌, ◌%◌, List, [], length, slice_index, slice_range, sum}
+use Rattle.std.specs.Prelude.{ℕ, ◌+◌, ◌-◌, ◌*◌, ◌/◌, ◌%◌, List, [], length, slice_index, slice_range, sum, min}
 use Rattle.hpe_base.specs.Lists.{tabulate}
-use Rattle.hpe_base.specs.Parameters.{Parameters, positions, sending_slots, symbol_slots, period_slots, codeword_symbols}
+use Rattle.hpe_base.specs.Parameters.{Parameters, clamp, positions, sending_slots, symbol_slots, period_slots, codeword_symbols}
 use Rattle.hpe_base.specs.ChannelInterleaver.{deinterleaved_channel}
 use Rattle.hpe_base.specs.MarkerSearch.{Offset, Short, Dark, At, offset_of}
 
--- the sums of the symbol that begins at a slot: at each pulse position, the counts of all its sendings; guard slots are
--- left out
+-- the sums of the symbol that begins at a slot: at each pulse position, the counts of all its sendings, cut; guard slots
+-- are left out
 unfoldable pub symbol_sums : Parameters → List ℕ → ℕ → List ℕ
 symbol_sums p counts start =
-    tabulate (positions p.order) (λ v. sum (tabulate p.repeat (λ i. slice_index counts (start + i * sending_slots p.order + v))))
+    tabulate (positions p.order) (λ v. min clamp (sum (tabulate p.repeat (λ i. slice_index counts (start + i * sending_slots p.order + v)))))
 
 -- the sums of symbol t of all codewords, markers left out, where the first marker begins at the offset
 abbrev pub received_sums : Parameters → List ℕ → ℕ → ℕ → List ℕ

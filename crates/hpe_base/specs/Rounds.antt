@@ -1,17 +1,12 @@
 -- Rounds between the inner and the outer code, and the verdict on a word.
-use Rattle.std.specs.Prelude.{if◌then◌else◌, ℕ, zero, suc, ◌+◌, ◌-◌, ℤ, pos, negsuc, Bool, List, take, drop, replicate}
+use Rattle.std.specs.Prelude.{if◌then◌else◌, ℕ, zero, suc, ◌+◌, ℤ, pos, negsuc, Bool, List, take, drop, replicate}
 use Rattle.std.specs.Str.{bytes_eq}
 use Rattle.hpe_base.specs.Lists.{tabulate}
-use Rattle.hpe_base.specs.Parameters.{Parameters, codeword_bits, code_steps, block_bits}
+use Rattle.hpe_base.specs.Parameters.{Parameters, codeword_bits, information_bits, block_bits}
 use Rattle.hpe_base.specs.Randomiser.{randomised}
 use Rattle.hpe_base.specs.Check.{check_bits}
 use Rattle.hpe_base.specs.CodeInterleaver.{pi, pi_inverse}
 use Rattle.hpe_base.specs.SoftValues.{inner_extrinsic, information_soft_value, code_extrinsic}
-use Rattle.hpe_base.specs.declared.profile.Rate.{Rate}
-
--- the information bits of the outer code: its steps, less the two that end it
-abbrev pub information_bits : Rate → ℕ
-information_bits r = code_steps r - 2
 
 -- 1 exactly where a soft value is above 0
 abbrev pub hard_bit : ℤ → ℕ
@@ -21,7 +16,7 @@ hard_bit (negsuc n) = 0
 
 -- the a-priori numbers of the outer code: the inner extrinsic values, the code interleaver undone
 unfoldable pub outer_numbers : Parameters → List ℕ → List ℤ → List ℤ
-outer_numbers p counts l = tabulate codeword_bits (λ i. inner_extrinsic p.order counts l (pi_inverse i))
+outer_numbers p counts l = tabulate codeword_bits (λ i. inner_extrinsic p counts l (pi_inverse i))
 
 -- the hard bits that the outer code decides from its a-priori numbers
 unfoldable pub hard_bits : Parameters → List ℤ → List ℕ
@@ -30,7 +25,7 @@ hard_bits p lo =
 
 -- the a-priori numbers of the next round: the outer extrinsic values in the interleaver's order
 unfoldable pub next_numbers : Parameters → List ℤ → List ℤ
-next_numbers p lo = tabulate codeword_bits (λ j. code_extrinsic p.columns lo (information_bits p.rate) (pi j))
+next_numbers p lo = tabulate codeword_bits (λ j. code_extrinsic p lo (pi j))
 
 -- what a round gives: the hard bits, and the a-priori numbers of the next
 pub record Round : Type 0 where

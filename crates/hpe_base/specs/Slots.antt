@@ -4,6 +4,7 @@ use Rattle.std.specs.Int.{div_ceil}
 use Rattle.hpe_base.specs.Lists.{tabulate, joined}
 use Rattle.hpe_base.specs.Bits.{zeros}
 use Rattle.hpe_base.specs.Parameters.{Parameters, sending_slots, period_symbols, codeword_symbols, period_slots, symbol_slots, interleaver_depth}
+use Rattle.hpe_base.specs.Counts.{low_octet}
 use Rattle.hpe_base.specs.Frames.{bit_stream}
 use Rattle.hpe_base.specs.Slicer.{block_count}
 use Rattle.hpe_base.specs.Codeword.{word_symbols}
@@ -46,6 +47,19 @@ period_count p octets = if block_count p octets == 0 then 0 else block_count p o
 unfoldable pub slots_to : Parameters → ℕ → List ℕ → List ℕ
 slots_to p n symbols = tabulate (n * period_slots p) (slot_at p (interleaved_channel p symbols))
 
--- the slots that carry the whole frames in the octets
+-- the octet at a place: the last octet of a slot carries it
+abbrev pub octet_at : Parameters → List ℕ → ℕ → ℕ
+octet_at p symbols place = low_octet p.count_octets (slot_at p symbols) place
+
+-- the octets of the slots of one symbol with its repeats
+unfoldable pub symbol_octets : Parameters → ℕ → List ℕ
+symbol_octets p symbol =
+    tabulate (p.count_octets * symbol_slots p) (low_octet p.count_octets (λ i. if i % sending_slots p.order == symbol then 1 else 0))
+
+-- the octets of the slots of the first n periods of the symbols
+unfoldable pub octets_to : Parameters → ℕ → List ℕ → List ℕ
+octets_to p n symbols = tabulate (p.count_octets * (n * period_slots p)) (octet_at p (interleaved_channel p symbols))
+
+-- the octets of the slots that carry the whole frames in the octets
 unfoldable pub slots_of : Parameters → List ℕ → List ℕ
-slots_of p octets = slots_to p (period_count p octets) (sent_symbols p octets)
+slots_of p octets = octets_to p (period_count p octets) (sent_symbols p octets)

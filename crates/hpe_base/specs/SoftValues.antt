@@ -1,7 +1,8 @@
 -- Soft values: how much more the best word scores in which a bit is 1 than the best in which it is 0.
-use Rattle.std.specs.Prelude.{ℕ, ℤ, pos, negsuc, ◌-ℤ◌, List, Bool, Some, None}
+use Rattle.std.specs.Prelude.{ℕ, suc, ◌*◌, ℤ, pos, negsuc, ◌-ℤ◌, List, Bool, Some, None}
 use Rattle.std.specs.declared.option.Option.{Option}
-use Rattle.std.specs.Int.{int_max, int_min}
+use Rattle.std.specs.Int.{int_max, int_min, div_ceil}
+use Rattle.hpe_base.specs.Parameters.{Parameters, clamp, information_bits}
 use Rattle.hpe_base.specs.Sizes.{number_at}
 use Rattle.hpe_base.specs.GreatestScores.{inner_top, information_top, code_top}
 use Rattle.hpe_base.specs.declared.profile.Order.{Order}
@@ -26,11 +27,16 @@ code_soft_value columns l n i = difference (code_top columns l n i 1) (code_top 
 
 -- clamped to -16,383..=16,383
 abbrev pub clamped : ℤ → ℤ
-clamped v = int_max (negsuc 16382) (int_min v (pos 16383))
+clamped v = int_max (pos 0 -ℤ pos clamp) (int_min v (pos clamp))
 
--- the extrinsic values: what a soft value adds to the a-priori number of its bit, clamped
-unfoldable pub inner_extrinsic : Order → List ℕ → List ℤ → ℕ → ℤ
-inner_extrinsic o counts l j = clamped (inner_soft_value o counts l j -ℤ number_at l j)
+-- s eighths of a number, rounded away from zero
+abbrev pub scaled : ℕ → ℤ → ℤ
+scaled s (pos n) = pos (div_ceil (n * s) 8)
+scaled s (negsuc n) = pos 0 -ℤ pos (div_ceil (suc n * s) 8)
 
-unfoldable pub code_extrinsic : List (List Bool) → List ℤ → ℕ → ℕ → ℤ
-code_extrinsic columns l n i = clamped (code_soft_value columns l n i -ℤ number_at l i)
+-- the extrinsic values: what a soft value adds to the a-priori number of its bit, clamped and then scaled
+unfoldable pub inner_extrinsic : Parameters → List ℕ → List ℤ → ℕ → ℤ
+inner_extrinsic p counts l j = scaled p.scale (clamped (inner_soft_value p.order counts l j -ℤ number_at l j))
+
+unfoldable pub code_extrinsic : Parameters → List ℤ → ℕ → ℤ
+code_extrinsic p l i = scaled p.scale (clamped (code_soft_value p.columns l (information_bits p.rate) i -ℤ number_at l i))

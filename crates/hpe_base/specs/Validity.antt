@@ -92,6 +92,8 @@ ranges f =
     ∷ (key.Repeat, within 1 32 f.repeat)
     ∷ (key.Rounds, within 1 64 f.rounds)
     ∷ (key.Search, within 1 4 f.search)
+    ∷ (key.CountOctets, within 1 2 f.count_octets)
+    ∷ (key.Scale, within 1 8 f.scale)
     ∷ []
 
 -- the first key whose value is out of its range
@@ -115,6 +117,8 @@ parameters_of f = record {
   repeat = unsigned_abs f.repeat;
   rounds = unsigned_abs f.rounds;
   search = unsigned_abs f.search;
+  count_octets = unsigned_abs f.count_octets;
+  scale = unsigned_abs f.scale;
 }
 
 -- for each rule in order, whether it holds

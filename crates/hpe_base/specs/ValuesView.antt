@@ -18,6 +18,8 @@ parameters_in v = record {
   repeat = v.repeat;
   rounds = v.rounds;
   search = v.search;
+  count_octets = v.count_octets;
+  scale = v.scale;
 }
 
 abbrev pub IsInRangeInside : Inside → Type 0

@@ -7,20 +7,38 @@ use thiserror::Error;
 /// The keys of a profile, in the order in which their ranges are tested.
 #[derive(Clone, Copy, Debug, PartialEq, Eq)]
 pub enum Key {
+    /// The order of modulation: 4, 8, 16, 32, 64, 128 or 256 pulse positions.
     Order,
+    /// The rate of the convolutional code: `1/3`, `1/2` or `2/3`.
     Rate,
+    /// The octets of a transfer frame, 1 to 65,536.
     FrameOctets,
+    /// The marker before each transfer frame, as a number of 32 bits other than 0.
     FrameMarker,
+    /// The taps of the pseudo-randomiser, 0 to 255.
     Taps,
+    /// The first eight bits of the pseudo-random sequence, 0 to 255.
     Seed,
+    /// The lower 32 coefficients of the check's generator, an odd number.
     Check,
+    /// The puncturing columns, 1 to 12 groups of three flags.
     Columns,
+    /// The rows of the channel interleaver, 1 to 64.
     Rows,
+    /// The delay of a row of the channel interleaver over the row before it, 1 to 8,388,608 turns.
     Delay,
+    /// The codeword marker, 1 to 64 symbols of 0 to 255.
     Marker,
+    /// The sendings of a symbol, 1 to 32.
     Repeat,
+    /// The most rounds of the decoder for a codeword, 1 to 64.
     Rounds,
+    /// The most periods that the marker search adds up, 1 to 4.
     Search,
+    /// The octets of a slot or a count, 1 or 2.
+    CountOctets,
+    /// The scale of extrinsic values, 1 to 8 eighths.
+    Scale,
 }
 
 /// The rules between the values of a profile, in the order in which they are tested.
@@ -46,8 +64,10 @@ pub enum Rule {
 /// the first rule between values that fails.
 #[derive(Clone, Copy, Debug, PartialEq, Eq, Error)]
 pub enum ProfileFault {
+    /// This is the first key whose value is out of its range.
     #[error("a value out of its range")]
     Range(Key),
+    /// All values are within their ranges, and this is the first rule that fails.
     #[error("a rule between values that fails")]
     Tie(Rule),
 }

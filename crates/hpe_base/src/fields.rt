@@ -1,7 +1,8 @@
 //! The fields of a profile as they are written, the range of each, and what it reads as.
-ghost use Rattle.std.specs.Prelude.{◌≡◌, ◌<◌, length, IsTrue, map, unsigned_abs};
+ghost use Rattle.std.specs.Prelude.{◌≡◌, ◌<◌, length, IsTrue, map, unsigned_abs, Ok};
 ghost use Rattle.std.specs.List.{list_all};
-ghost use Rattle.hpe_base.specs.Validity.{within, order_of, rate_of, columns_of, is_check, is_column_character, is_columns, is_marker, first_out_of_range};
+ghost use Rattle.hpe_base.specs.Validity.{within, order_of, rate_of, columns_of, is_check, is_column_character, is_columns, is_marker, first_out_of_range, profile_of};
+ghost use Rattle.hpe_base.specs.Parameters.{basic};
 
 use crate::fault::{Key, first_failing};
 use crate::profile::{Order, Rate};
@@ -14,22 +15,73 @@ pub const MOST_COLUMNS: usize = 12;
 pub const MOST_MARKER_SYMBOLS: usize = 64;
 
 /// The fields of a profile, one for each key: whole numbers and texts, as a profile file has them.
+///
+/// [`Fields::basic`] has every default, so that a profile names what differs: `Fields { order: 64, ..Fields::basic() }`,
+/// with a marker of its own where the order asks for one.
 #[derive(Clone, Copy, Debug)]
 pub struct Fields<'a> {
+    /// The pulse positions of a symbol: 4, 8, 16, 32, 64, 128 or 256.
     pub order: i64,
+    /// The rate of the convolutional code: `1/3`, `1/2` or `2/3`.
     pub rate: &'a str,
+    /// The octets of a transfer frame, 1 to 65,536.
     pub frame_octets: i64,
+    /// The 32 bits before each transfer frame, as a number of 1 to 4,294,967,295, most significant bit first.
     pub frame_marker: i64,
+    /// The taps of the pseudo-randomiser, 0 to 255: the bit of value `2^i` selects the bit that stands `8 - i` places back.
     pub taps: i64,
+    /// The first eight bits of the pseudo-random sequence, as a number of 0 to 255, most significant bit first.
     pub seed: i64,
+    /// The lower 32 coefficients of the check's generator, as an odd number of 1 to 4,294,967,295, highest power first.
     pub check: i64,
+    /// The puncturing columns: 1 to 12 groups of three characters `0` or `1`, one space between two groups. Each group has
+    /// the flags of the three code bits of a step.
     pub columns: &'a str,
+    /// The rows of the channel interleaver, 1 to 64.
     pub rows: i64,
+    /// By how many turns each row of the channel interleaver delays more than the row before it, 1 to 8,388,608.
     pub delay: i64,
+    /// The symbols of the codeword marker, 1 to 64 of them, each 0 to 255 and below the order.
     pub marker: &'a [i64],
+    /// How often each symbol is sent, 1 to 32.
     pub repeat: i64,
+    /// The most rounds that the decoder makes for a codeword, 1 to 64.
     pub rounds: i64,
+    /// The most periods that the marker search adds up, 1 to 4.
     pub search: i64,
+    /// The octets of a slot in a slot file and of a count in a count file, 1 or 2, the high octet first.
+    pub count_octets: i64,
+    /// By how many eighths an extrinsic value is multiplied, 1 to 8.
+    pub scale: i64,
+}
+
+/// The codeword marker of the built-in profile: symbol `i` is `5 i (i + 1) / 2` modulo 16.
+const BASIC_MARKER: [i64; 16] = [0, 5, 15, 14, 2, 11, 9, 12, 4, 1, 3, 10, 6, 7, 13, 8];
+
+impl Fields<'_> {
+    /// The fields of the built-in profile.
+    pub fn basic() -> Fields<'static>
+        ensures { profile_of result ≡ Ok basic }
+    {
+        Fields {
+            order: 16,
+            rate: "1/3",
+            frame_octets: 100,
+            frame_marker: 0x1ACF_FC1D,
+            taps: 0xA9,
+            seed: 255,
+            check: 0x2004_4009,
+            columns: "111",
+            rows: 1,
+            delay: 1,
+            marker: &BASIC_MARKER,
+            repeat: 1,
+            rounds: 16,
+            search: 1,
+            count_octets: 1,
+            scale: 8,
+        }
+    }
 }
 
 impl Order {
@@ -176,5 +228,7 @@ pub fn first_out_of_range(fields: &Fields) -> Option<Key>
         (Key::Repeat, is_within(&fields.repeat, 1, 32)),
         (Key::Rounds, is_within(&fields.rounds, 1, 64)),
         (Key::Search, is_within(&fields.search, 1, 4)),
+        (Key::CountOctets, is_within(&fields.count_octets, 1, 2)),
+        (Key::Scale, is_within(&fields.scale, 1, 8)),
     ])
 }

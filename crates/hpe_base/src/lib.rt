@@ -1,6 +1,8 @@
 //! The parameters of a link, and in `specs/` the definition of each stage of its signalling chain.
 #![tactic(auto)]
 
+pub mod bits;
+pub mod columns;
 mod fault;
 mod fields;
 mod laws;
@@ -14,8 +16,10 @@ mod values;
 
 pub use fault::{Key, ProfileFault, Rule};
 pub use fields::Fields;
-pub use laws::tops_are_greatest;
+pub use laws::{eight_eighths_are_whole, one_octet_is_plain, tops_are_greatest};
 pub use measures::{Measures, geometry};
 pub use memory::NoMemory;
-pub use profile::{CODE_BITS, Order, Profile, Rate};
+pub use profile::{
+    CHECK_BITS, CLAMP, CODE_BITS, FRAME_MARKER_BITS, Order, Profile, Rate, TERMINATION_BITS,
+};
 pub use steps::Steps;

@@ -33,7 +33,7 @@ pub fn geometry(p: &Profile) -> Measures
 {
     let values = p.values();
     let symbols = p.order().symbols();
-    let symbol_slots = values.symbol_slots();
+    let symbol_slots = p.symbol_slots();
     let depth = values.depth();
     Measures {
         steps: p.rate().steps(),

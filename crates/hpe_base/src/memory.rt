@@ -1,3 +1,4 @@
+//! The want of memory.
 use thiserror::Error;
 
 /// The want of memory, in a call that nothing else can refuse.

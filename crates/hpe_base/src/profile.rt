@@ -1,30 +1,46 @@
-ghost use Rattle.std.specs.Prelude.{◌≡◌};
+//! The parameters of a link, valid by their type, and the numbers of the chain that its order and its rate give.
+ghost use Rattle.std.specs.Prelude.{◌≡◌, ◌≤◌, ◌<◌, ◌*◌, ◌^◌};
 ghost use Rattle.hpe_base.specs.Validity.{profile_of};
-ghost use Rattle.hpe_base.specs.Parameters.{symbol_bits, positions, codeword_symbols, code_steps, block_bits, IsValid, basic};
+ghost use Rattle.hpe_base.specs.Parameters.{symbol_bits, positions, sending_slots, symbol_slots, codeword_symbols, code_steps, information_bits, block_bits, IsValid, basic};
+ghost use Rattle.hpe_base.specs.FrameScan.{span_bits};
 
+use crate::bits::OCTET_BITS;
 use crate::fault::ProfileFault;
 use crate::fields::{Fields, first_out_of_range};
-use crate::values::{Values, filled};
+use crate::values::Values;
 use std::marker::Model;
 
 /// The code bits of a codeword.
 pub const CODE_BITS: usize = 15_120;
 
+/// The greatest sum of the counts of a slot, and the greatest size of a number that one code hands to the other.
+pub const CLAMP: u16 = 16_383;
+
+/// The bits of the marker before each transfer frame.
+pub const FRAME_MARKER_BITS: usize = 32;
+
 /// The bits of the cyclic redundancy check.
-const CHECK_BITS: usize = 32;
+pub const CHECK_BITS: usize = 32;
 
 /// The zero bits that end the convolutional code.
-const TERMINATION_BITS: usize = 2;
+pub const TERMINATION_BITS: usize = 2;
 
 /// The order of pulse-position modulation: the number of pulse positions of a symbol.
 #[derive(Clone, Copy, Debug, PartialEq, Eq)]
 pub enum Order {
+    /// 4 pulse positions: 2 bits a symbol.
     P4,
+    /// 8 pulse positions: 3 bits a symbol.
     P8,
+    /// 16 pulse positions: 4 bits a symbol.
     P16,
+    /// 32 pulse positions: 5 bits a symbol.
     P32,
+    /// 64 pulse positions: 6 bits a symbol.
     P64,
+    /// 128 pulse positions: 7 bits a symbol.
     P128,
+    /// 256 pulse positions: 8 bits a symbol.
     P256,
 }
 
@@ -59,6 +75,15 @@ impl Order {
         }
     }
 
+    /// The slots of one sending of a symbol, 5 to 320: its pulse positions, and a quarter as many guard slots.
+    pub fn sending_slots(&self) -> usize
+        ensures value { result ≡ sending_slots self.now }
+        ensures some { 0 < result }
+        ensures most { result ≤ 320 }
+    {
+        5 * self.slots() / 4
+    }
+
     /// The symbols of a codeword, 1,890 to 7,560, without the codeword marker.
     pub fn symbols(&self) -> usize
         ensures { result ≡ codeword_symbols self.now }
@@ -70,8 +95,11 @@ impl Order {
 /// The rate of the punctured convolutional code.
 #[derive(Clone, Copy, Debug, PartialEq, Eq)]
 pub enum Rate {
+    /// 1/3: 5,040 steps of the convolutional code in a codeword.
     Third,
+    /// 1/2: 7,560 steps.
     Half,
+    /// 2/3: 10,080 steps.
     TwoThirds,
 }
 
@@ -87,11 +115,19 @@ impl Rate {
         }
     }
 
+    /// The bits that enter the convolutional code before its termination: 5,038, 7,558 or 10,078. They are the
+    /// information bits and their check.
+    pub fn information(&self) -> usize
+        ensures { result ≡ information_bits self.now }
+    {
+        self.steps() - TERMINATION_BITS
+    }
+
     /// The information bits of a codeword: 5,006, 7,526 or 10,046.
     pub fn block(&self) -> usize
         ensures { result ≡ block_bits self.now }
     {
-        self.steps() - CHECK_BITS - TERMINATION_BITS
+        self.information() - CHECK_BITS
     }
 }
 
@@ -115,9 +151,6 @@ impl Model for Profile {
     ghost invariant = { IsValidInside };
 }
 
-/// The default codeword marker at order 16: symbol `i` is `5 i (i + 1) / 2` modulo 16.
-const MARKER_16: [u8; 16] = [0, 5, 15, 14, 2, 11, 9, 12, 4, 1, 3, 10, 6, 7, 13, 8];
-
 impl Profile {
     /// The profile that fields name, or why they name none: the first key whose value is out of its range or, where
     /// there is none, the first rule between values that fails.
@@ -139,23 +172,7 @@ impl Profile {
     pub fn basic() -> Profile
         ensures { result ≡ basic }
     {
-        let values = Values {
-            order: Order::P16,
-            rate: Rate::Third,
-            frame_octets: 100,
-            frame_marker: 0x1ACF_FC1D,
-            taps: 0xA9,
-            seed: 255,
-            check: 0x2004_4009,
-            columns: filled(&[[true; 3]]),
-            rows: 1,
-            delay: 1,
-            marker: filled(&MARKER_16),
-            repeat: 1,
-            rounds: 16,
-            search: 1,
-        };
-        Profile { values }
+        Profile::new(&Fields::basic()).unwrap()
     }
 
     /// An equal profile.
@@ -201,35 +218,40 @@ impl Profile {
 
     /// The 32 bits that are attached before each transfer frame, not all zero.
     pub fn frame_marker(&self) -> u32
-        ensures { result ≡ self.now.frame_marker }
+        ensures value { result ≡ self.now.frame_marker }
+        ensures valid { IsValid self.now }
     {
         self.values.frame_marker
     }
 
     /// The taps of the pseudo-randomiser: the bit of value `2^i` selects the bit that stands `8 - i` places back.
     pub fn taps(&self) -> u8
-        ensures { result ≡ self.now.taps }
+        ensures value { result ≡ self.now.taps }
+        ensures valid { IsValid self.now }
     {
         self.values.taps
     }
 
     /// The first eight bits of the pseudo-random sequence, most significant first.
     pub fn seed(&self) -> u8
-        ensures { result ≡ self.now.seed }
+        ensures value { result ≡ self.now.seed }
+        ensures valid { IsValid self.now }
     {
         self.values.seed
     }
 
     /// The lower 32 coefficients of the check's generator, highest power first; the coefficient of `x^32` is 1.
     pub fn check(&self) -> u32
-        ensures { result ≡ self.now.check }
+        ensures value { result ≡ self.now.check }
+        ensures valid { IsValid self.now }
     {
         self.values.check
     }
 
     /// The puncturing columns, 1 to 12: which of a step's three code bits are kept. They serve in turn.
     pub fn columns(&self) -> &[[bool; 3]]
-        ensures { result.now ≡ self.now.columns }
+        ensures value { result.now ≡ self.now.columns }
+        ensures valid { IsValid self.now }
     {
         self.values.columns.as_slice()
     }
@@ -280,5 +302,48 @@ impl Profile {
         ensures valid { IsValid self.now }
     {
         self.values.search
+    }
+
+    /// The octets of a slot in a slot file and of a count in a count file, 1 or 2, the high octet first.
+    pub fn count_octets(&self) -> usize
+        ensures value { result ≡ self.now.count_octets }
+        ensures valid { IsValid self.now }
+    {
+        self.values.count_octets
+    }
+
+    /// By how many eighths a number is multiplied that one code hands to the other, 1 to 8.
+    pub fn scale(&self) -> u32
+        ensures value { result ≡ self.now.scale }
+        ensures valid { IsValid self.now }
+    {
+        self.values.scale
+    }
+
+    /// The bits of a transfer frame with its marker, 40 to 524,320.
+    pub fn span_bits(&self) -> usize
+        ensures value { result ≡ span_bits self.now }
+        ensures low { 40 ≤ result }
+        ensures high { result ≤ 2 ^ 20 }
+    {
+        FRAME_MARKER_BITS + OCTET_BITS * self.values.frame_octets
+    }
+
+    /// The slots of a symbol with its repeats and guard slots, 5 to 10,240.
+    pub fn symbol_slots(&self) -> usize
+        ensures value { result ≡ symbol_slots self.now }
+        ensures some { 0 < result }
+        ensures most { result ≤ 10240 }
+    {
+        self.values.symbol_slots()
+    }
+
+    /// The octets of the slots of a symbol, 5 to 20,480.
+    pub fn symbol_octets(&self) -> usize
+        ensures value { result ≡ self.now.count_octets * symbol_slots self.now }
+        ensures some { 0 < result }
+        ensures most { result ≤ 20480 }
+    {
+        self.values.count_octets * self.symbol_slots()
     }
 }

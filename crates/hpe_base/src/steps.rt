@@ -1,3 +1,4 @@
+//! The counter of trellis stages, which only contracts see.
 ghost use Rattle.std.specs.Prelude.{◌≡◌, ◌<◌, ◌+◌, ◌^◌};
 
 use std::marker::Model;

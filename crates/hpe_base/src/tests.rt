@@ -10,20 +10,8 @@ pub const MARKER: [i64; 16] = [0, 5, 15, 14, 2, 11, 9, 12, 4, 1, 3, 10, 6, 7, 13
 /// The fields of the built-in profile.
 pub fn basic_fields<'a>(marker: &'a [i64]) -> Fields<'a> {
     Fields {
-        order: 16,
-        rate: "1/3",
-        frame_octets: 100,
-        frame_marker: 449_838_109,
-        taps: 169,
-        seed: 255,
-        check: 537_149_449,
-        columns: "111",
-        rows: 1,
-        delay: 1,
         marker,
-        repeat: 1,
-        rounds: 16,
-        search: 1,
+        ..Fields::basic()
     }
 }
 
@@ -43,12 +31,13 @@ fn orders_and_rates(rt: HostRuntime) {
         assert_eq!(rt; order.slots(), slots);
         assert_eq!(rt; order.symbols(), symbols);
     }
-    for (rate, steps, block) in [
-        (Rate::Third, 5_040, 5_006),
-        (Rate::Half, 7_560, 7_526),
-        (Rate::TwoThirds, 10_080, 10_046),
+    for (rate, steps, information, block) in [
+        (Rate::Third, 5_040, 5_038, 5_006),
+        (Rate::Half, 7_560, 7_558, 7_526),
+        (Rate::TwoThirds, 10_080, 10_078, 10_046),
     ] {
         assert_eq!(rt; rate.steps(), steps);
+        assert_eq!(rt; rate.information(), information);
         assert_eq!(rt; rate.block(), block);
     }
 }
@@ -72,5 +61,7 @@ fn built_in_profile(rt: HostRuntime) -> Result<(), Fail> {
     assert_eq!(rt; p.repeat(), 1);
     assert_eq!(rt; p.rounds(), 16);
     assert_eq!(rt; p.search(), 1);
+    assert_eq!(rt; p.count_octets(), 1);
+    assert_eq!(rt; p.scale(), 8);
     Ok(())
 }

@@ -1,9 +1,10 @@
 //! The values of a profile, each within its range, before it is known that they agree with each other.
-ghost use Rattle.std.specs.Prelude.{◌≡◌, ◌<◌, ◌≤◌, ◌*◌, ◌^◌, length, None, nat_le, nat_lt, sum_by};
+ghost use Rattle.std.specs.Prelude.{◌≡◌, ◌<◌, ◌≤◌, ◌*◌, ◌^◌, length, None, nat_le, nat_lt};
 ghost use Rattle.std.specs.List.{list_all};
 ghost use Rattle.hpe_base.specs.Parameters.{flags_set, positions, symbol_slots, period_slots, interleaver_depth};
-ghost use Rattle.hpe_base.specs.Validity.{within, columns_of, first_failing, first_out_of_range, parameters_of, first_broken};
+ghost use Rattle.hpe_base.specs.Validity.{columns_of, first_failing, first_out_of_range, parameters_of, first_broken};
 
+use crate::columns::{flags_in_all, flags_set};
 use crate::fault::{Rule, first_failing};
 use crate::fields::{Fields, MOST_COLUMNS, MOST_MARKER_SYMBOLS, columns_of, marker_of, natural};
 use crate::profile::{CODE_BITS, Order, Rate};
@@ -30,6 +31,8 @@ pub struct Values {
     pub repeat: usize,
     pub rounds: u32,
     pub search: usize,
+    pub count_octets: usize,
+    pub scale: u32,
 }
 
 impl Model for Values {
@@ -45,7 +48,7 @@ impl Model for Values {
 }
 
 /// The values in a vector of fixed room.
-pub fn filled<T: Copy + Default, const N: usize>(values: &[T]) -> ArrayVec<T, N>
+fn filled<T: Copy + Default, const N: usize>(values: &[T]) -> ArrayVec<T, N>
     requires { length values.now ≤ N }
     ensures { result.items ≡ values.now }
 {
@@ -54,14 +57,6 @@ pub fn filled<T: Copy + Default, const N: usize>(values: &[T]) -> ArrayVec<T, N>
         Ok(()) => all,
         Err(_) => unreachable!(),
     }
-}
-
-/// The flags of a puncturing column that are set.
-fn flags_set(column: &[bool; 3]) -> usize
-    ensures value { result ≡ flags_set column.now }
-    ensures few { result ≤ 3 }
-{
-    column[0] as usize + column[1] as usize + column[2] as usize
 }
 
 impl Values {
@@ -85,6 +80,8 @@ impl Values {
             repeat: natural(&fields.repeat) as usize,
             rounds: natural(&fields.rounds) as u32,
             search: natural(&fields.search) as usize,
+            count_octets: natural(&fields.count_octets) as usize,
+            scale: natural(&fields.scale) as u32,
         }
     }
 
@@ -107,14 +104,18 @@ impl Values {
             repeat: self.repeat,
             rounds: self.rounds,
             search: self.search,
+            count_octets: self.count_octets,
+            scale: self.scale,
         }
     }
 
     /// The slots of a symbol with its repeats.
     pub fn symbol_slots(&self) -> usize
-        ensures { result ≡ symbol_slots self.now }
+        ensures value { result ≡ symbol_slots self.now }
+        ensures some { 0 < result }
+        ensures most { result ≤ 10240 }
     {
-        self.repeat * (5 * self.order.slots() / 4)
+        self.repeat * self.order.sending_slots()
     }
 
     /// The slots of a period: the codeword marker and a codeword.
@@ -139,19 +140,6 @@ impl Values {
         self.columns.iter().all(|column| flags_set(column) >= 1)
     }
 
-    /// The flags that are set in all puncturing columns.
-    fn flags(&self) -> usize
-        ensures value { result ≡ sum_by flags_set self.now.columns }
-        ensures few { result ≤ 36 }
-    {
-        let columns = self.columns.as_slice();
-        let mut flags = 0;
-        for column in columns {
-            flags += flags_set(column);
-        }
-        flags
-    }
-
     /// Whether each symbol of the codeword marker is below the order.
     fn has_low_marker(&self) -> bool
         ensures { result ≡ list_all (λ v. nat_lt v (positions self.now.order)) self.now.marker }
@@ -169,7 +157,10 @@ impl Values {
         first_failing(&[
             (Rule::ColumnEmpty, self.has_full_columns()),
             (Rule::ColumnCount, steps % columns == 0),
-            (Rule::KeptTotal, steps / columns * self.flags() == CODE_BITS),
+            (
+                Rule::KeptTotal,
+                steps / columns * flags_in_all(self.columns.as_slice()) == CODE_BITS,
+            ),
             (Rule::RowsDivide, self.order.symbols() % self.rows == 0),
             (Rule::MarkerValue, self.has_low_marker()),
             (Rule::Depth, self.depth() * self.order.slots() <= MOST_SLOTS),

@@ -1,19 +1,18 @@
 -- A closed block, taken apart again.
-use Rattle.std.proofs.Common.{◌≡◌, ◌<◌, ◌+◌, ◌-◌, ◌^◌, ◌++◌, ℕ, List, [], ◌∷◌, length, take, drop, sym, ◌∙◌, ap, arith, length-append, get_or, replicate, ◌%◌, true}
+use Rattle.std.proofs.Common.{◌≡◌, ◌+◌, ◌-◌, ◌^◌, ◌++◌, ℕ, List, [], ◌∷◌, length, take, drop, sym, ◌∙◌, ap, arith, length-append, replicate, ◌%◌, true}
 use Rattle.std.proofs.lemmas.List.{take_at, drop_at}
 use Rattle.std.proofs.lemmas.Slice.Eq.{bytes_eq-Decides}
-use Rattle.std.proofs.lemmas.List.Elements.{All-from_get_or}
-use Rattle.std.proofs.lemmas.Nat.{mod_below}
 use Rattle.std.specs.Str.{bytes_eq}
-use Rattle.hpe_base.specs.Bits.{AreBits, xor, zeros}
+use Rattle.hpe_base.specs.Bits.{AreBits, zeros}
 use Rattle.hpe_base.specs.Check.{divide, add_front, check_bits}
-use Rattle.hpe_base.specs.Randomiser.{randomised, pseudo_random}
+use Rattle.hpe_base.specs.Randomiser.{randomised}
 use Rattle.hpe_base.specs.Termination.{closed_block}
 use Rattle.hpe_base.specs.Parameters.{Parameters, block_bits}
-use Rattle.hpe_base.specs.Rounds.{information_bits, is_right}
+use Rattle.hpe_base.specs.Parameters.{information_bits}
+use Rattle.hpe_base.specs.Rounds.{is_right}
 use Rattle.hpe_base.proofs.BitLists.{length-bits_of, bits_of-mod}
-use Rattle.hpe_base.proofs.Tabulated.{length-tabulate, get_or-tabulate}
 use Rattle.hpe_base.proofs.ParameterLemmas.{code_steps-ge}
+use Rattle.hpe_base.proofs.Shapes.{length-randomised, are_bits-randomised}
 use Rattle.hpe_block.specs.Division.{divided_by}
 use Rattle.hpe_block.proofs.Division.{divided_by_check}
 
@@ -37,12 +36,6 @@ module _ (mixed check word : List ℕ) (k : ℕ) (long : length mixed ≡ k) (si
   back_part : drop k word ≡ check
   back_part = ap (drop k) parts ∙ drop_at mixed check k long
 
--- a block that is randomised is bits
-are_bits-randomised : (p : Parameters) (bits : List ℕ) → AreBits (randomised p bits)
-are_bits-randomised p bits = All-from_get_or (λ b. b < 2) (randomised p bits) 0 (λ k h.
-    let within : k < length bits = omega (arith, length-tabulate (length bits) (λ n. xor (get_or bits n 0) (get_or (pseudo_random p.taps p.seed (length bits)) n 0))) in
-    rw (get_or-tabulate (length bits) (λ n. xor (get_or bits n 0) (get_or (pseudo_random p.taps p.seed (length bits)) n 0)) k 0 within) (mod_below _ 2 (omega arith)))
-
 -- the word of a closed block has the randomised block in front and is right
 pub record IsOpened (p : Parameters) (block word : List ℕ) : Type 0 where
   pub front : take (block_bits p.rate) word ≡ randomised p block
@@ -55,7 +48,7 @@ opened p block word long is =
     let k : ℕ = block_bits p.rate in
     let mixed : List ℕ = randomised p block in
     let check : List ℕ = check_bits p.check mixed in
-    let same : length mixed ≡ k = length-tabulate (length block) _ ∙ long in
+    let same : length mixed ≡ k = length-randomised p block ∙ long in
     let size : length check ≡ 32 = length-check_bits p.check mixed (are_bits-randomised p block) in
     let all : information_bits p.rate ≡ k + 32 = omega (arith, code_steps-ge p.rate) in
     let word_is : word ≡ take (k + 32) (mixed ++ check ++ 0 ∷ 0 ∷ []) = is ∙ ap (λ n. take n (closed_block p block)) all in

@@ -1,28 +1,16 @@
 // A block as it enters the convolutional code, and back from it.
 ghost use Rattle.std.specs.Prelude.{◌≡◌, ◌↔◌, ℕ, List, true, length, take, IsSome, IsNone};
-ghost use Rattle.hpe_base.specs.Bits.{AreBits, bits_of};
+ghost use Rattle.hpe_base.specs.Bits.{AreBits};
 ghost use Rattle.hpe_base.specs.Randomiser.{randomised};
 ghost use Rattle.hpe_base.specs.Termination.{closed_block};
 ghost use Rattle.hpe_base.specs.Parameters.{block_bits, code_steps};
-ghost use Rattle.hpe_base.specs.Rounds.{information_bits, is_right};
+ghost use Rattle.hpe_base.specs.Parameters.{information_bits};
+ghost use Rattle.hpe_base.specs.Rounds.{is_right};
 
 use crate::check::check_of;
 use crate::randomiser::randomise;
-use hpe_base::Profile;
-
-/// The bits of a `u32`, as which the check is worked out.
-const WORD_BITS: usize = u32::BITS as usize;
-
-/// Writes the 32 bits of a number, most significant first.
-pub(crate) fn put_number(number: u32, into: &mut [u8])
-    requires { length into.old ≡ 32 }
-    ensures value { into.new ≡ bits_of 32 number }
-    ensures bits { AreBits into.new }
-{
-    for i in 0..WORD_BITS {
-        into[i] = ((number >> (WORD_BITS - 1 - i)) & 1) as u8;
-    }
-}
+use hpe_base::bits::write_bits;
+use hpe_base::{CHECK_BITS, Profile};
 
 /// Randomises a block of information bits and attaches its check and the termination: what enters the convolutional
 /// code.
@@ -38,8 +26,8 @@ pub fn close_block(p: &Profile, block: &[u8], into: &mut [u8])
     let (information, rest) = into.split_at_mut(block.len());
     information.copy_from_slice(block);
     randomise(p, information);
-    let (check, termination) = rest.split_at_mut(WORD_BITS);
-    put_number(check_of(p.check(), information), check);
+    let (check, termination) = rest.split_at_mut(CHECK_BITS);
+    write_bits(check_of(p.check(), information), check);
     termination.fill(0);
 }
 
@@ -50,8 +38,8 @@ fn has_right_check(p: &Profile, word: &[u8]) -> bool
     ensures { result ≡ is_right p.now word.now }
 {
     let (information, check) = word.split_at(p.rate().block());
-    let mut right = [0; WORD_BITS];
-    put_number(check_of(p.check(), information), &mut right);
+    let mut right = [0; CHECK_BITS];
+    write_bits(check_of(p.check(), information), &mut right);
     check == right.as_slice()
 }
 

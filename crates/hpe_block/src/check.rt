@@ -1,12 +1,11 @@
-// The cyclic redundancy check, by long division over a register of 32 bits. It takes whole octets by a table of their
-// remainders. To make the table in each call costs 255 steps, where a block has thousands.
+//! The cyclic redundancy check, by long division over a register of 32 bits. It takes whole octets by a table of their
+//! remainders. To make the table in each call costs 255 steps, where a block has thousands.
 ghost use Rattle.std.specs.Prelude.{◌≡◌, ◌<◌, ◌≤◌, ◌^◌, ℕ, length, slice_index};
 ghost use Rattle.hpe_base.specs.Bits.{AreBits, bits_of, number_of};
 ghost use Rattle.hpe_base.specs.Check.{check_bits};
 ghost use Rattle.hpe_block.specs.Division.{divided, divided_by};
 
-/// The bits of an octet.
-const OCTET_BITS: usize = u8::BITS as usize;
+use hpe_base::bits::{OCTET_BITS, number_of};
 
 /// How many octets there are.
 const OCTETS: usize = 1 << OCTET_BITS;
@@ -46,18 +45,6 @@ fn remainders(check: u32) -> [u32; OCTETS]
     table
 }
 
-/// The octet that eight bits write.
-fn octet_of(bits: &[u8; OCTET_BITS]) -> u8
-    requires { AreBits bits.now }
-    ensures { result ≡ number_of bits.now }
-{
-    let mut octet = 0;
-    for bit in bits {
-        octet = octet * 2 + *bit;
-    }
-    octet
-}
-
 /// Eight steps at once. The division is linear: what is added to the rest of the register depends only on the sum of its
 /// first octet and the bits.
 fn divide_octet(remainders: &[u32; OCTETS], register: u32, bits: &[u8; OCTET_BITS]) -> u32
@@ -66,7 +53,7 @@ fn divide_octet(remainders: &[u32; OCTETS], register: u32, bits: &[u8; OCTET_BIT
         → ((octet : ℕ) → octet < OCTETS → slice_index remainders.now octet ≡ divided_by check 0 (bits_of 8 octet))
         → result ≡ divided_by check register bits.now }
 {
-    (register << OCTET_BITS) ^ remainders[((register >> 24) as u8 ^ octet_of(bits)) as usize]
+    (register << OCTET_BITS) ^ remainders[((register >> 24) as u8 ^ number_of(bits)) as usize]
 }
 
 /// The cyclic redundancy check of a list of bits, as a number of 32 bits of which the most significant is sent first.

@@ -1,11 +1,11 @@
 ghost use Rattle.std.specs.Prelude.{◌≡◌, ◌<◌, length};
 ghost use Rattle.hpe_base.specs.Bits.{AreBits};
 ghost use Rattle.hpe_base.specs.Parameters.{code_steps};
-ghost use Rattle.hpe_base.specs.Rounds.{information_bits};
+ghost use Rattle.hpe_base.specs.Parameters.{information_bits};
 
-use crate::block::put_number;
 use crate::{Slicer, check_of, close_block, open_block, randomise};
 use hpe_base::Profile;
+use hpe_base::bits::write_bits;
 use std::test::Fail;
 
 /// The pseudo-random sequence of the built-in profile begins with these five octets.
@@ -46,12 +46,12 @@ fn randomises_and_back(rt: HostRuntime) {
     for (plain, mixed) in [(0, 0xFF48_0EC0), (0x1ACF_FC1D, 0xE587_F2DD)] {
         let mut bits = [0; 32];
         let mut expected = [0; 32];
-        put_number(plain, &mut bits);
+        write_bits(plain, &mut bits);
         randomise(&p, &mut bits);
-        put_number(mixed, &mut expected);
+        write_bits(mixed, &mut expected);
         assert_eq!(rt; bits, expected);
         randomise(&p, &mut bits);
-        put_number(plain, &mut expected);
+        write_bits(plain, &mut expected);
         assert_eq!(rt; bits, expected);
     }
 }

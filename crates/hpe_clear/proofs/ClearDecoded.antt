@@ -1,5 +1,5 @@
 -- A clear channel: what is decoded is what was sent.
-use Rattle.std.proofs.Common.{◌≡◌, ◌≢◌, ◌*◌, ◌%◌, ◌<◌, ◌≤◌, ◌++◌, ℕ, List, [], ◌∷◌, length, map, refl, sym, ◌∙◌, ap, arith, zero, suc, true, false, Bool, All, append-nil, inl, inr}
+use Rattle.std.proofs.Common.{◌≡◌, ◌≢◌, ◌*◌, ◌%◌, ◌<◌, ◌≤◌, ◌++◌, ℕ, List, [], ◌∷◌, length, map, refl, sym, ◌∙◌, ap, arith, zero, suc, true, false, Bool, All, append-nil, add-zero, inl, inr}
 use Rattle.std.specs.Prelude.{if◌then◌else◌, ◌==◌, Some, None}
 use Rattle.std.specs.List.{flat_map, count_by}
 use Rattle.std.proofs.Math.Nat.{mul-le-mul_left}
@@ -16,16 +16,17 @@ use Rattle.hpe_base.specs.Slicer.{block_count}
 use Rattle.hpe_base.specs.FrameScan.{span_bits, delivered_frames}
 use Rattle.hpe_base.specs.MarkerSearch.{Offset, Short, Dark, At, offset_of}
 use Rattle.hpe_base.specs.Rounds.{Verdict, Kept, Lost}
-use Rattle.hpe_base.specs.Decoded.{Tally, is_kept, is_lost, block_of, blocks_of, verdicts_of, decoded, tally_at, tally_of}
+use Rattle.hpe_base.specs.Decoded.{Tally, is_kept, is_lost, block_of, blocks_of, verdicts_of, counts_frames, decoded, tally_at, counts_tally, tally_of}
 use Rattle.hpe_base.proofs.EachPlace.{list_all-range_with_len}
 use Rattle.hpe_base.proofs.ParameterLemmas.{code_steps-ge}
 use Rattle.hpe_base.proofs.Pieces.{pieces_joined}
 use Rattle.hpe_base.proofs.Tabulated.{length-tabulate, get_or-tabulate, tabulate-none, tabulate-suc, length-joined-each, joined-same}
+use Rattle.hpe_base.proofs.Shapes.{length-bit_stream}
 use Rattle.hpe_frame.specs.Laws.{given_blocks, is_given, frame_if}
-use Rattle.hpe_frame.proofs.GivenBlocks.{frames_given, length-bit_stream}
-use Rattle.hpe_clear.specs.Laws.{clear_counts, clear_offset, clear_tally, full_score, ClearChannelIsDecoded}
+use Rattle.hpe_frame.proofs.GivenBlocks.{frames_given}
+use Rattle.hpe_clear.specs.Laws.{clear_octets, clear_counts, clear_offset, clear_tally, full_score, ClearChannelIsDecoded}
 use Rattle.hpe_clear.proofs.SeenSymbols.{map_from_places}
-use Rattle.hpe_clear.proofs.SeenWords.{offset_clear, offset_none, length-none, tail_clear}
+use Rattle.hpe_clear.proofs.SeenWords.{offset_clear, odd-clear, offset_none, length-none, tail_clear}
 use Rattle.hpe_clear.proofs.FirstRound.{block_sent, verdicts_clear}
 
 -- the verdicts that keep every block
@@ -61,8 +62,8 @@ singles_joined (suc n) g =
     ∙ (ap (λ xs. xs ++ (g n ++ [])) (singles_joined n g) ∙ ap (λ xs. joined n g ++ xs) (append-nil (g n)))
 
 decoded_clear : (p : Parameters) (octets : List ℕ) (d : ℕ) → IsValid p → All (λ octet. octet < 256) octets → length octets % p.frame_octets ≡ 0 → d < period_slots p →
-    decoded p (clear_counts p octets d) ≡ octets
-unfolding decoded
+    decoded p (clear_octets p octets d) ≡ octets
+unfolding decoded counts_frames
 decoded_clear p octets d v small whole h =
     let all : length octets ≡ frame_count p octets * p.frame_octets = omega (arith, div-add-mod' (length octets) p.frame_octets) in
     ap (flat_map (λ x. x)) (frames_clear p octets d v small h)
@@ -102,34 +103,36 @@ some_lit : (n : ℕ) → 0 < n → (n == 0) ≡ false
 some_lit n h = grind (arith, nat_tests)
 
 tally_some : (p : Parameters) (octets : List ℕ) (d : ℕ) → IsValid p → All (λ octet. octet < 256) octets → 0 < block_count p octets → d < period_slots p →
-    tally_of p (clear_counts p octets d) ≡ clear_tally p octets d
-unfolding tally_of
+    tally_of p (clear_octets p octets d) ≡ clear_tally p octets d
+unfolding tally_of counts_tally
 tally_some p octets d v small some h =
     let n : ℕ = block_count p octets in
     let lit : (n == 0) ≡ false = some_lit n some in
     let verdicts : verdicts_of p (clear_counts p octets d) ≡ kept_all p octets = verdicts_clear p octets d v h in
-    ap (tally_at p (clear_counts p octets d)) (offset_clear p octets d v some h)
+    ap (λ odd. tally_at p (clear_counts p octets d) odd (offset_of p (clear_counts p octets d))) (odd-clear p octets d v)
+    ∙ ap (tally_at p (clear_counts p octets d) 0) (offset_clear p octets d v some h)
     ∙ tally_same
     (ap length verdicts ∙ length-tabulate n _)
     (ap (count_by is_kept) verdicts ∙ count_kept n (block_sent p octets))
     (ap (count_by is_lost) verdicts ∙ count_lost n (block_sent p octets))
     (frames_count p octets d v small h)
     (sym (ap (λ b. if b then 0 else d) lit))
-    (tail_clear p octets d v some ∙ sym (ap (λ b. if b then d else 0) lit))
+    (add-zero _ ∙ tail_clear p octets d v some ∙ sym (ap (λ b. if b then d else 0) lit))
 
-tally_none : (p : Parameters) (octets : List ℕ) (d : ℕ) → block_count p octets ≡ 0 → d < period_slots p → tally_of p (clear_counts p octets d) ≡ clear_tally p octets d
-unfolding tally_of
-tally_none p octets d none h =
-    ap (tally_at p (clear_counts p octets d)) (offset_none p octets d none h)
+tally_none : (p : Parameters) (octets : List ℕ) (d : ℕ) → IsValid p → block_count p octets ≡ 0 → d < period_slots p → tally_of p (clear_octets p octets d) ≡ clear_tally p octets d
+unfolding tally_of counts_tally
+tally_none p octets d v none h =
+    ap (λ odd. tally_at p (clear_counts p octets d) odd (offset_of p (clear_counts p octets d))) (odd-clear p octets d v)
+    ∙ ap (tally_at p (clear_counts p octets d) 0) (offset_none p octets d v none h)
     ∙ tally_same (sym none) (sym none) refl (sym (frames_none p octets none))
     (sym (ap (λ n. if n == 0 then 0 else d) none))
-    (length-none p octets d none ∙ sym (ap (λ n. if n == 0 then d else 0) none))
+    (add-zero _ ∙ length-none p octets d v none ∙ sym (ap (λ n. if n == 0 then d else 0) none))
 
 -- the offset, with or without a block
 offset_is : (p : Parameters) (octets : List ℕ) (d : ℕ) → IsValid p → d < period_slots p → offset_of p (clear_counts p octets d) ≡ clear_offset p octets d
 offset_is p octets d v h =
     elim (cases_eq (block_count p octets) 0) [
-      | inl none ↦ offset_none p octets d none h ∙ sym (ap (λ n. if n == 0 then Short else At d (full_score p (clear_counts p octets d))) none)
+      | inl none ↦ offset_none p octets d v none h ∙ sym (ap (λ n. if n == 0 then Short else At d (full_score p (clear_counts p octets d))) none)
       | inr some ↦
           offset_clear p octets d v (omega arith) h
           ∙ sym (ap (λ b. if b then Short else At d (full_score p (clear_counts p octets d))) (some_lit (block_count p octets) (omega arith)))
@@ -140,10 +143,10 @@ chosen_lit true d best = λ e. cc
 chosen_lit false d best = λ e. cc
 
 tally_is : (p : Parameters) (octets : List ℕ) (d : ℕ) → IsValid p → All (λ octet. octet < 256) octets → d < period_slots p →
-    tally_of p (clear_counts p octets d) ≡ clear_tally p octets d
+    tally_of p (clear_octets p octets d) ≡ clear_tally p octets d
 tally_is p octets d v small h =
     elim (cases_eq (block_count p octets) 0) [
-      | inl none ↦ tally_none p octets d none h
+      | inl none ↦ tally_none p octets d v none h
       | inr some ↦ tally_some p octets d v small (omega arith) h
     ]
 

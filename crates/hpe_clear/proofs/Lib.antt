@@ -1,5 +1,3 @@
-pub mod FullSums
-pub mod FirstPeak
 pub mod SeenSlots
 pub mod SeenMarkers
 pub mod SeenSymbols

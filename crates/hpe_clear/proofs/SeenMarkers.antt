@@ -6,13 +6,11 @@ use Rattle.std.proofs.lemmas.Bool.{cases_lt}
 use Rattle.std.proofs.lemmas.Bool.Decides.{nat_tests}
 use Rattle.hpe_base.specs.Lists.{tabulate}
 use Rattle.hpe_base.specs.Parameters.{Parameters, IsValid, sending_slots, symbol_slots, period_slots}
-use Rattle.hpe_base.specs.MarkerSearch.{marker_sum, score, searched_periods, pulse_place, offset_of, At}
-use Rattle.hpe_find.proofs.Sums.{sum-tabulate-le}
-use Rattle.hpe_find.proofs.Sizes.{period-pos, marker_symbol}
-use Rattle.hpe_find.proofs.Offsets.{offset_of-at}
+use Rattle.hpe_base.specs.MarkerSearch.{marker_sum, score, searched_periods, pulse_place, least_greatest, offset_of, At}
+use Rattle.hpe_base.proofs.Tabulated.{sum-tabulate-le, sum-tabulate-each, sum-tabulate-lt}
+use Rattle.hpe_base.proofs.MarkerSearch.{least_greatest-is, offset_of-at}
+use Rattle.hpe_base.proofs.ParameterLemmas.{marker_symbol}
 use Rattle.hpe_clear.specs.Laws.{full_score}
-use Rattle.hpe_clear.proofs.FullSums.{sum-tabulate-each, sum-tabulate-lt}
-use Rattle.hpe_clear.proofs.FirstPeak.{least_greatest-is}
 use Rattle.hpe_clear.proofs.SeenSlots.{seen, length-seen, seen_at, seen-le, clear_before}
 
 -- the sum of a marker each pulse of which is counted once
@@ -65,13 +63,13 @@ first_eq d period symbol sending o m h = omega arith
 first_missed : (p : Parameters) (symbols : List ℕ) (n d o : ℕ) → IsValid p → 0 < n → o < d → get_or (seen p symbols n d) (o + get_or p.marker 0 0) 0 ≡ 0
 first_missed p symbols n d o v hn h =
     let m : ℕ = get_or p.marker 0 0 in
-    let low : m < sending_slots p.order = marker_symbol p 0 v v.marker_low in
+    let low : m < sending_slots p.order = marker_symbol p 0 v v.range.marker_low in
     elim (cases_lt (o + m) d) [
       | inl before ↦ clear_before d (o + m) _ before
       | inr after ↦
           ap (λ k. get_or (seen p symbols n d) k 0) (sym (first_eq d (period_slots p) (symbol_slots p) (sending_slots p.order) o m after))
-          ∙ (seen_at p symbols n d 0 0 0 (o + m - d) hn (omega (arith, v.marker_low)) v.repeat_low (omega arith)
-          ∙ (ap (λ x. if o + m - d == x then 1 else 0) (marker_first 0 (length p.marker) _ _ v.marker_low) ∙ missed (o + m - d) m (omega arith)))
+          ∙ (seen_at p symbols n d 0 0 0 (o + m - d) hn (omega (arith, v.range.marker_low)) v.range.repeat_low (omega arith)
+          ∙ (ap (λ x. if o + m - d == x then 1 else 0) (marker_first 0 (length p.marker) _ _ v.range.marker_low) ∙ missed (o + m - d) m (omega arith)))
     ]
 
 start_eq : (o period symbol sending m : ℕ) → o + 0 * period + (0 * symbol + 0 * sending + m) ≡ o + m
@@ -80,9 +78,9 @@ start_eq o period symbol sending m = omega arith
 marker_missed : (p : Parameters) (symbols : List ℕ) (n d o : ℕ) → IsValid p → 0 < n → o < d → marker_sum p (seen p symbols n d) (o + 0 * period_slots p) < full p
 unfolding marker_sum
 marker_missed p symbols n d o v hn h =
-    sum-tabulate-lt (length p.marker) p.repeat 0 _ v.marker_low
+    sum-tabulate-lt (length p.marker) p.repeat 0 _ v.range.marker_low
     (λ r b. ones-le p.repeat _ (λ i. seen-le p symbols n d (o + 0 * period_slots p + pulse_place p r i)))
-    (ones-lt p.repeat _ v.repeat_low (λ i. seen-le p symbols n d (o + 0 * period_slots p + pulse_place p 0 i))
+    (ones-lt p.repeat _ v.range.repeat_low (λ i. seen-le p symbols n d (o + 0 * period_slots p + pulse_place p 0 i))
     (ap (λ k. get_or (seen p symbols n d) k 0) (start_eq o (period_slots p) (symbol_slots p) (sending_slots p.order) (get_or p.marker 0 0)) ∙ first_missed p symbols n d o v hn h))
 
 -- as many periods are seen as were sent
@@ -103,7 +101,7 @@ score-most p symbols n d o =
     sum-tabulate-le (searched_periods p (seen p symbols n d)) (full p) _ (λ j b. marker_sum-most p symbols n d (o + j * period_slots p))
 
 searched_some : (p : Parameters) (symbols : List ℕ) (n d : ℕ) → IsValid p → 0 < n → d < period_slots p → 0 < searched_periods p (seen p symbols n d)
-searched_some p symbols n d v hn h = omega (arith, periods_seen p symbols n d h, v.search_low)
+searched_some p symbols n d v hn h = omega (arith, periods_seen p symbols n d h, v.range.search_low)
 
 score_before : (p : Parameters) (symbols : List ℕ) (n d o : ℕ) → IsValid p → 0 < n → d < period_slots p → o < d →
     score p (seen p symbols n d) o < full_score p (seen p symbols n d)
@@ -114,7 +112,7 @@ score_before p symbols n d o v hn h b =
 
 full_score-pos : (p : Parameters) (symbols : List ℕ) (n d : ℕ) → IsValid p → 0 < n → d < period_slots p → 1 ≤ full_score p (seen p symbols n d)
 full_score-pos p symbols n d v hn h =
-    let one : 1 * 1 ≤ full p = mul-le 1 1 (length p.marker) p.repeat v.marker_low v.repeat_low in
+    let one : 1 * 1 ≤ full p = mul-le 1 1 (length p.marker) p.repeat v.range.marker_low v.range.repeat_low in
     let all : 1 * 1 ≤ full_score p (seen p symbols n d) = mul-le 1 1 (searched_periods p (seen p symbols n d)) (full p) (searched_some p symbols n d v hn h) (omega arith) in
     omega arith
 
@@ -124,12 +122,9 @@ pub offset_seen : (p : Parameters) (symbols : List ℕ) (n d : ℕ) → IsValid 
 offset_seen p symbols n d v hn h =
     let top : score p (seen p symbols n d) d ≡ full_score p (seen p symbols n d) = score_seen p symbols n d v h in
     let one : 1 * period_slots p ≤ n * period_slots p = mul-le 1 (period_slots p) n (period_slots p) hn (omega arith) in
-    offset_of-at p (seen p symbols n d) d (full_score p (seen p symbols n d)) v (omega (arith, length-seen p symbols n d))
-    (record {
-      place = sym (least_greatest-is (score p (seen p symbols n d)) (period_slots p) d h
-          (λ o b. subst (λ t. score p (seen p symbols n d) o ≤ t) (sym top) (score-most p symbols n d o))
-          (λ o b. subst (λ t. score p (seen p symbols n d) o < t) (sym top) (score_before p symbols n d o v hn h b)));
-      value = λ pos. sym top;
-      none = λ none. absurd (omega (arith, period-pos p v));
-    })
+    let place : d ≡ least_greatest (score p (seen p symbols n d)) (period_slots p) =
+    sym (least_greatest-is (score p (seen p symbols n d)) (period_slots p) d h
+    (λ o b. subst (λ t. score p (seen p symbols n d) o ≤ t) (sym top) (score-most p symbols n d o))
+    (λ o b. subst (λ t. score p (seen p symbols n d) o < t) (sym top) (score_before p symbols n d o v hn h b))) in
+    offset_of-at p (seen p symbols n d) d (full_score p (seen p symbols n d)) (omega (arith, length-seen p symbols n d)) place (sym top)
     (full_score-pos p symbols n d v hn h)

@@ -1,5 +1,5 @@
 -- The counts of periods of slots behind dark ones, place by place.
-use Rattle.std.proofs.Common.{◌≡◌, ◌+◌, ◌-◌, ◌*◌, ◌/◌, ◌%◌, ◌<◌, ◌≤◌, ℕ, List, length, get_or, refl, sym, ◌∙◌, ap, arith, inl, inr}
+use Rattle.std.proofs.Common.{◌≡◌, ◌+◌, ◌-◌, ◌*◌, ◌/◌, ◌%◌, ◌<◌, ◌≤◌, ◌++◌, ℕ, List, length, get_or, refl, sym, ◌∙◌, ap, arith, inl, inr}
 use Rattle.std.specs.Prelude.{if◌then◌else◌, ◌==◌, nat_lt}
 use Rattle.std.proofs.lemmas.Nat.{div-mul-add, mod-mul-add, row_fits}
 use Rattle.std.proofs.lemmas.Bool.{cases_lt}
@@ -9,13 +9,16 @@ use Rattle.hpe_base.specs.Lists.{tabulate}
 use Rattle.hpe_base.specs.Bits.{zeros}
 use Rattle.hpe_base.specs.Parameters.{Parameters, sending_slots, symbol_slots, period_symbols, period_slots, codeword_symbols}
 use Rattle.hpe_base.specs.Slots.{slot_at}
-use Rattle.hpe_base.specs.ClearChannel.{clear}
 use Rattle.hpe_base.proofs.Tabulated.{length-tabulate, get_or-tabulate}
 use Rattle.hpe_base.proofs.BitLists.{length-zeros}
 
+-- slots behind d dark ones
+abbrev pub behind : ℕ → List ℕ → List ℕ
+behind d slots = zeros d ++ slots
+
 -- the counts of n periods of symbols behind d dark slots
 abbrev pub seen : Parameters → List ℕ → ℕ → ℕ → List ℕ
-seen p symbols n d = clear d (tabulate (n * period_slots p) (slot_at p symbols))
+seen p symbols n d = behind d (tabulate (n * period_slots p) (slot_at p symbols))
 
 -- symbol r of period g, the marker's first
 abbrev pub symbol_in : Parameters → List ℕ → ℕ → ℕ → ℕ
@@ -47,20 +50,20 @@ within_period p r i b hr hi hb =
     let symbol : r * symbol_slots p + symbol_slots p ≤ period_slots p = row_fits r (symbol_slots p) (period_symbols p) (symbol_slots p) hr (omega arith) in
     omega arith
 
-pub length-clear : (d : ℕ) (slots : List ℕ) → length (clear d slots) ≡ d + length slots
-length-clear d slots = length-append (zeros d) slots ∙ ap (λ n. n + length slots) (length-zeros d)
+pub length-behind : (d : ℕ) (slots : List ℕ) → length (behind d slots) ≡ d + length slots
+length-behind d slots = length-append (zeros d) slots ∙ ap (λ n. n + length slots) (length-zeros d)
 
-pub clear_before : (d i : ℕ) (slots : List ℕ) → i < d → get_or (clear d slots) i 0 ≡ 0
+pub clear_before : (d i : ℕ) (slots : List ℕ) → i < d → get_or (behind d slots) i 0 ≡ 0
 unfolding zeros
 clear_before d i slots h = get_or_append_left (zeros d) slots 0 i (omega (arith, length-zeros d)) ∙ get_or-replicate d i 0 0 h
 
-pub clear_after : (d i : ℕ) (slots : List ℕ) → get_or (clear d slots) (d + i) 0 ≡ get_or slots i 0
+pub clear_after : (d i : ℕ) (slots : List ℕ) → get_or (behind d slots) (d + i) 0 ≡ get_or slots i 0
 clear_after d i slots =
     let back : d + i - d ≡ i = omega arith in
     get_or-append_right (zeros d) slots d (d + i) 0 (length-zeros d) (omega arith) ∙ ap (λ k. get_or slots k 0) back
 
 pub length-seen : (p : Parameters) (symbols : List ℕ) (n d : ℕ) → length (seen p symbols n d) ≡ d + n * period_slots p
-length-seen p symbols n d = length-clear d _ ∙ ap (λ k. d + k) (length-tabulate (n * period_slots p) (slot_at p symbols))
+length-seen p symbols n d = length-behind d _ ∙ ap (λ k. d + k) (length-tabulate (n * period_slots p) (slot_at p symbols))
 
 -- the count of slot b of sending i of symbol r of period g
 pub seen_at : (p : Parameters) (symbols : List ℕ) (n d g r i b : ℕ) → g < n → r < period_symbols p → i < p.repeat → b < sending_slots p.order →

@@ -1,18 +1,16 @@
 -- Behind dark slots, the sums of each symbol are its pulses, and the channel interleaver is undone for them as for the
 -- symbols.
-use Rattle.std.proofs.Common.{◌≡◌, ◌+◌, ◌-◌, ◌*◌, ◌/◌, ◌%◌, ◌<◌, ℕ, List, [], length, get_or, map, sym, ◌∙◌, ap, arith}
-use Rattle.std.specs.Prelude.{if◌then◌else◌, ◌==◌, nat_lt}
+use Rattle.std.proofs.Common.{◌≡◌, ◌+◌, ◌-◌, ◌*◌, ◌/◌, ◌%◌, ◌<◌, ◌≤◌, ℕ, List, [], length, get_or, map, sym, ◌∙◌, ap, arith}
+use Rattle.std.specs.Prelude.{if◌then◌else◌, ◌==◌, nat_lt, min}
 use Rattle.std.proofs.lemmas.Nat.{div-mul-add, div_below, div-add-mod'}
 use Rattle.std.proofs.lemmas.Bool.Decides.{nat_tests}
 use Rattle.std.proofs.lemmas.List.{length-map, get_or-map}
 use Rattle.hpe_base.specs.Lists.{tabulate}
-use Rattle.hpe_base.specs.Parameters.{Parameters, positions, sending_slots, symbol_slots, period_slots, codeword_symbols, interleaver_depth}
+use Rattle.hpe_base.specs.Parameters.{Parameters, clamp, positions, sending_slots, symbol_slots, period_slots, codeword_symbols, interleaver_depth}
 use Rattle.hpe_base.specs.ChannelInterleaver.{delay_at, deinterleaved_channel}
 use Rattle.hpe_base.specs.ReceivedWords.{symbol_sums, received_sums, channel_sums}
-use Rattle.hpe_base.proofs.ParameterLemmas.{positions-lt, codeword_symbols-ge}
-use Rattle.hpe_base.proofs.Tabulated.{length-tabulate, get_or-tabulate, tabulate_from_places, tabulate-same}
-use Rattle.hpe_weave.proofs.Channels.{delay_at-le}
-use Rattle.hpe_clear.proofs.FullSums.{sum-tabulate-each}
+use Rattle.hpe_base.proofs.ParameterLemmas.{positions-lt, codeword_symbols-ge, delay_at-le}
+use Rattle.hpe_base.proofs.Tabulated.{length-tabulate, get_or-tabulate, tabulate_from_places, tabulate-same, sum-tabulate-each}
 use Rattle.hpe_clear.proofs.SeenSlots.{seen, length-seen, seen_at}
 
 -- the sums of a symbol that was sent: each sending is counted at its position, and nothing at the others
@@ -35,30 +33,35 @@ data_symbol k r gs m symbols =
 sum_eq : (d g r i v : ℕ) → d + g + r + i + v ≡ d + (g + (r + (i + v)))
 sum_eq d g r i v = omega arith
 
+-- few sendings of single counts aren't cut
+cut_pulse : (q v x : ℕ) → q ≤ 32 → min clamp (if v == x then q else 0) ≡ (if v == x then q else 0)
+cut_pulse q v x few = grind (arith, nat_tests)
+
 -- the sums of symbol r of period g
-symbol_seen : (p : Parameters) (symbols : List ℕ) (n d g r : ℕ) → g < n → r < codeword_symbols p.order →
+symbol_seen : (p : Parameters) (symbols : List ℕ) (n d g r : ℕ) → p.repeat ≤ 32 → g < n → r < codeword_symbols p.order →
     symbol_sums p (seen p symbols n d) (d + g * period_slots p + (length p.marker + r) * symbol_slots p) ≡ pulse_sums p (get_or symbols (g * codeword_symbols p.order + r) 0)
 unfolding symbol_sums
-symbol_seen p symbols n d g r hg hr =
+symbol_seen p symbols n d g r few hg hr =
     tabulate-same (positions p.order) _ _ (λ v hv.
-    sum-tabulate-each p.repeat (if v == get_or symbols (g * codeword_symbols p.order + r) 0 then 1 else 0) _ (λ i hi.
+    ap (min clamp) (sum-tabulate-each p.repeat (if v == get_or symbols (g * codeword_symbols p.order + r) 0 then 1 else 0) _ (λ i hi.
     ap (λ k. get_or (seen p symbols n d) k 0) (sum_eq d (g * period_slots p) ((length p.marker + r) * symbol_slots p) (i * sending_slots p.order) v)
     ∙ (seen_at p symbols n d g (length p.marker + r) i v hg (omega arith) hi (omega (arith, positions-lt p.order))
     ∙ ap (λ x. if v == x then 1 else 0) (data_symbol (length p.marker) r (g * codeword_symbols p.order) _ symbols)))
     ∙ repeated p.repeat v _)
+    ∙ cut_pulse p.repeat v _ few)
 
 -- the sums of all symbols, markers left out
-pub symbols_seen : (p : Parameters) (symbols : List ℕ) (n d : ℕ) → 0 < period_slots p → length symbols ≡ n * codeword_symbols p.order →
+pub symbols_seen : (p : Parameters) (symbols : List ℕ) (n d : ℕ) → p.repeat ≤ 32 → 0 < period_slots p → length symbols ≡ n * codeword_symbols p.order →
     channel_sums p (seen p symbols n d) d ≡ map (pulse_sums p) symbols
 unfolding channel_sums
-symbols_seen p symbols n d pos l =
+symbols_seen p symbols n d few pos l =
     let s : ℕ = codeword_symbols p.order in
     let some : 0 < s = omega (arith, codeword_symbols-ge p.order) in
     let rest : length (seen p symbols n d) - d ≡ n * period_slots p + 0 = omega (arith, length-seen p symbols n d) in
     let periods : (length (seen p symbols n d) - d) / period_slots p ≡ n = ap (λ k. k / period_slots p) rest ∙ div-mul-add n (period_slots p) 0 pos in
     ap (λ k. tabulate (k * s) (received_sums p (seen p symbols n d) d)) periods
     ∙ map_from_places (pulse_sums p) symbols 0 [] (n * s) _ l (λ t ht.
-    symbol_seen p symbols n d (t / s) (t % s) (div_below t s n some ht) (omega arith)
+    symbol_seen p symbols n d (t / s) (t % s) few (div_below t s n some ht) (omega arith)
     ∙ ap (λ k. pulse_sums p (get_or symbols k 0)) (div-add-mod' t s))
 
 -- the inverse of the channel interleaver moves values and leaves them as they are

@@ -8,11 +8,13 @@ use Rattle.std.proofs.lemmas.Bool.{cases_eq}
 use Rattle.std.proofs.lemmas.List.{length-map, length-take, take-map, drop-map, ext_get_or, get_or-take, get_or-drop}
 use Rattle.hpe_base.specs.Lists.{tabulate, joined}
 use Rattle.hpe_base.specs.Bits.{zeros}
-use Rattle.hpe_base.specs.Parameters.{Parameters, IsValid, symbol_bits, block_bits, codeword_bits, period_slots, codeword_symbols}
+use Rattle.hpe_base.specs.Parameters.{Parameters, IsValid, block_bits, period_slots, codeword_symbols}
 use Rattle.hpe_base.specs.Frames.{bit_stream}
 use Rattle.hpe_base.specs.Slicer.{block_count, block_from}
 use Rattle.hpe_base.specs.Codeword.{codeword, word_symbols}
-use Rattle.hpe_base.specs.Slots.{flush_words, sent_symbols, slots_to, slots_of, period_count}
+use Rattle.hpe_base.specs.Slots.{flush_words, sent_symbols, slot_at, octets_to, slots_of, period_count}
+use Rattle.hpe_base.specs.Counts.{odd_octets}
+use Rattle.hpe_base.proofs.Counts.{counts_of-clear, odd_octets-clear}
 use Rattle.hpe_base.specs.ChannelInterleaver.{interleaved_channel, deinterleaved_channel}
 use Rattle.hpe_base.specs.MarkerSearch.{Short, At, offset_of}
 use Rattle.hpe_base.specs.ReceivedWords.{groups_of, words_from, words_at, received_words}
@@ -20,19 +22,15 @@ use Rattle.hpe_base.proofs.BitLists.{length-zeros}
 use Rattle.hpe_base.proofs.Channels.{length-interleaved_channel}
 use Rattle.hpe_base.proofs.Pieces.{flat_map-tabulate, length-flat_map-each, length-piece, piece_at, piece_within}
 use Rattle.hpe_base.proofs.Tabulated.{length-tabulate, get_or-tabulate, tabulate_from_places, tabulate-none}
-use Rattle.hpe_find.proofs.Sizes.{period-pos}
-use Rattle.hpe_find.proofs.Offsets.{offset_of-short}
+use Rattle.hpe_base.proofs.ParameterLemmas.{period-pos}
+use Rattle.hpe_base.proofs.MarkerSearch.{offset_of-short}
+use Rattle.hpe_base.proofs.Shapes.{length-codeword}
 use Rattle.hpe_weave.specs.Laws.{ComesBack}
 use Rattle.hpe_weave.proofs.Undone.{channel_interleaver_is_undone}
-use Rattle.hpe_clear.specs.Laws.{clear_counts, full_score}
-use Rattle.hpe_clear.proofs.SeenSlots.{seen, length-seen, length-clear}
+use Rattle.hpe_clear.specs.Laws.{clear_octets, clear_counts, full_score}
+use Rattle.hpe_clear.proofs.SeenSlots.{seen, length-seen, length-behind}
 use Rattle.hpe_clear.proofs.SeenMarkers.{offset_seen}
 use Rattle.hpe_clear.proofs.SeenSymbols.{pulse_sums, symbols_seen, deinterleaved-map}
-
-length-codeword : (p : Parameters) (block : List ℕ) → length (codeword p block) ≡ codeword_symbols p.order
-unfolding codeword
-length-codeword p block =
-    length-tabulate _ _ ∙ ap (λ n. n / symbol_bits p.order) (length-tabulate _ _ ∙ length-tabulate codeword_bits _)
 
 -- the blocks that are sent
 abbrev blocks_sent : Parameters → List ℕ → List (List ℕ)
@@ -68,37 +66,46 @@ sent_periods p octets = block_count p octets + flush_words p
 periods_some : (w f : ℕ) → 0 < w → (if w == 0 then 0 else w + f) ≡ w + f
 periods_some w f h = grind (arith, nat_tests)
 
-counts_are_seen : (p : Parameters) (octets : List ℕ) (d : ℕ) → 0 < block_count p octets →
+-- the counts of the octets that are sent are the slots
+counts_are : (p : Parameters) (octets : List ℕ) (d : ℕ) → IsValid p → clear_counts p octets d ≡ seen p (sent_channel p octets) (period_count p octets) d
+unfolding slots_of octets_to
+counts_are p octets d v =
+    counts_of-clear p d (period_count p octets * period_slots p) (slot_at p (sent_channel p octets)) v.range.count_octets_low v.range.count_octets_high
+
+-- and no octet is odd
+pub odd-clear : (p : Parameters) (octets : List ℕ) (d : ℕ) → IsValid p → odd_octets p (clear_octets p octets d) ≡ 0
+unfolding slots_of octets_to
+odd-clear p octets d v = odd_octets-clear p d (period_count p octets * period_slots p) (slot_at p (sent_channel p octets)) v.range.count_octets_low
+
+counts_are_seen : (p : Parameters) (octets : List ℕ) (d : ℕ) → IsValid p → 0 < block_count p octets →
     clear_counts p octets d ≡ seen p (sent_channel p octets) (sent_periods p octets) d
-unfolding slots_of slots_to
-counts_are_seen p octets d h =
-    ap (λ n. seen p (sent_channel p octets) n d) (periods_some (block_count p octets) (flush_words p) h)
+counts_are_seen p octets d v h =
+    counts_are p octets d v ∙ ap (λ n. seen p (sent_channel p octets) n d) (periods_some (block_count p octets) (flush_words p) h)
 
 -- the dark slots are the offset
 pub offset_clear : (p : Parameters) (octets : List ℕ) (d : ℕ) → IsValid p → 0 < block_count p octets → d < period_slots p →
     offset_of p (clear_counts p octets d) ≡ At d (full_score p (clear_counts p octets d))
 offset_clear p octets d v some h =
-    rw (counts_are_seen p octets d some) (offset_seen p (sent_channel p octets) (sent_periods p octets) d v (omega arith) h)
+    rw (counts_are_seen p octets d v some) (offset_seen p (sent_channel p octets) (sent_periods p octets) d v (omega arith) h)
 
 -- nothing stands behind the last period
 pub tail_clear : (p : Parameters) (octets : List ℕ) (d : ℕ) → IsValid p → 0 < block_count p octets →
     (length (clear_counts p octets d) - d) % period_slots p ≡ 0
 tail_clear p octets d v some =
     let n : ℕ = sent_periods p octets in
-    let len : length (clear_counts p octets d) ≡ d + n * period_slots p = ap length (counts_are_seen p octets d some) ∙ length-seen p _ n d in
+    let len : length (clear_counts p octets d) ≡ d + n * period_slots p = ap length (counts_are_seen p octets d v some) ∙ length-seen p _ n d in
     let rest : length (clear_counts p octets d) - d ≡ n * period_slots p + 0 = omega arith in
     ap (λ k. k % period_slots p) rest ∙ mod-mul-add n (period_slots p) 0 (period-pos p v)
 
 -- where there is no block, nothing stands behind the dark slots
-pub length-none : (p : Parameters) (octets : List ℕ) (d : ℕ) → block_count p octets ≡ 0 → length (clear_counts p octets d) ≡ d
-unfolding slots_of slots_to
-length-none p octets d none =
+pub length-none : (p : Parameters) (octets : List ℕ) (d : ℕ) → IsValid p → block_count p octets ≡ 0 → length (clear_counts p octets d) ≡ d
+length-none p octets d v none =
     let periods : period_count p octets * period_slots p ≡ 0 = ap (λ w. (if w == 0 then 0 else w + flush_words p) * period_slots p) none ∙ omega arith in
-    length-clear d _ ∙ (ap (λ k. d + k) (length-tabulate (period_count p octets * period_slots p) _ ∙ periods) ∙ omega arith)
+    ap length (counts_are p octets d v) ∙ length-behind d _ ∙ (ap (λ k. d + k) (length-tabulate (period_count p octets * period_slots p) _ ∙ periods) ∙ omega arith)
 
 -- and the stream is short
-pub offset_none : (p : Parameters) (octets : List ℕ) (d : ℕ) → block_count p octets ≡ 0 → d < period_slots p → offset_of p (clear_counts p octets d) ≡ Short
-offset_none p octets d none h = offset_of-short p (clear_counts p octets d) (omega (arith, length-none p octets d none))
+pub offset_none : (p : Parameters) (octets : List ℕ) (d : ℕ) → IsValid p → block_count p octets ≡ 0 → d < period_slots p → offset_of p (clear_counts p octets d) ≡ Short
+offset_none p octets d v none h = offset_of-short p (clear_counts p octets d) (omega (arith, length-none p octets d v none))
 
 -- pieces of a list that begins with the other
 piece_front : (xs ys : List ℕ) (a m : ℕ) → take (length xs) ys ≡ xs → a + m ≤ length xs → slice_range ys a (a + m) ≡ slice_range xs a (a + m)
@@ -156,9 +163,9 @@ words_from_clear p octets d v some =
     let n : ℕ = sent_periods p octets in
     let long : length chan ≡ n * s = length-interleaved_channel p (sent_symbols p octets) ∙ length-sent p octets in
     let back : ComesBack p 0 (data_symbols p octets) = channel_interleaver_is_undone p 0 (data_symbols p octets) v in
-    ap (λ counts. words_from p counts d) (counts_are_seen p octets d some)
-    ∙ (ap (λ sums. groups_of s (deinterleaved_channel p [] sums)) (symbols_seen p chan n d (period-pos p v) long)
-    ∙ (ap (groups_of s) (deinterleaved-map p (pulse_sums p) chan 0 [] v.rows_low)
+    ap (λ counts. words_from p counts d) (counts_are_seen p octets d v some)
+    ∙ (ap (λ sums. groups_of s (deinterleaved_channel p [] sums)) (symbols_seen p chan n d v.range.repeat_high (period-pos p v) long)
+    ∙ (ap (groups_of s) (deinterleaved-map p (pulse_sums p) chan 0 [] v.range.rows_low)
     ∙ words_back p octets (deinterleaved_channel p 0 chan) back.front back.few))
 
 words_some : (p : Parameters) (octets : List ℕ) (d : ℕ) → IsValid p → 0 < block_count p octets → d < period_slots p →
@@ -167,11 +174,11 @@ unfolding received_words
 words_some p octets d v some h =
     ap (words_at p (clear_counts p octets d)) (offset_clear p octets d v some h) ∙ words_from_clear p octets d v some
 
-words_none : (p : Parameters) (octets : List ℕ) (d : ℕ) → block_count p octets ≡ 0 → d < period_slots p →
+words_none : (p : Parameters) (octets : List ℕ) (d : ℕ) → IsValid p → block_count p octets ≡ 0 → d < period_slots p →
     received_words p (clear_counts p octets d) ≡ tabulate (block_count p octets) (word_sums p octets)
 unfolding received_words
-words_none p octets d none h =
-    ap (words_at p (clear_counts p octets d)) (offset_none p octets d none h)
+words_none p octets d v none h =
+    ap (words_at p (clear_counts p octets d)) (offset_none p octets d v none h)
     ∙ sym (ap (λ n. tabulate n (word_sums p octets)) none ∙ tabulate-none (word_sums p octets))
 
 -- the received words
@@ -179,6 +186,6 @@ pub words_clear : (p : Parameters) (octets : List ℕ) (d : ℕ) → IsValid p �
     received_words p (clear_counts p octets d) ≡ tabulate (block_count p octets) (word_sums p octets)
 words_clear p octets d v h =
     elim (cases_eq (block_count p octets) 0) [
-      | inl none ↦ words_none p octets d none h
+      | inl none ↦ words_none p octets d v none h
       | inr some ↦ words_some p octets d v (omega arith) h
     ]

@@ -5,14 +5,19 @@ use Rattle.hpe_base.specs.Parameters.{Parameters, IsValid, block_bits, period_sl
 use Rattle.hpe_base.specs.Frames.{frame_count, bit_stream}
 use Rattle.hpe_base.specs.Slicer.{block_count, block_from}
 use Rattle.hpe_base.specs.Slots.{slots_of}
+use Rattle.hpe_base.specs.Counts.{counts_of}
 use Rattle.hpe_base.specs.ClearChannel.{clear}
 use Rattle.hpe_base.specs.MarkerSearch.{Offset, Short, Dark, At, searched_periods, offset_of}
 use Rattle.hpe_base.specs.Rounds.{Kept}
 use Rattle.hpe_base.specs.Decoded.{Tally, verdicts_of, decoded, tally_of}
 
--- the counts of the slots of octets after d dark slots
+-- the octets of the slots of octets after d dark slots
+abbrev pub clear_octets : Parameters → List ℕ → ℕ → List ℕ
+clear_octets p octets d = clear p d (slots_of p octets)
+
+-- their counts
 abbrev pub clear_counts : Parameters → List ℕ → ℕ → List ℕ
-clear_counts p octets d = clear d (slots_of p octets)
+clear_counts p octets d = counts_of p (clear_octets p octets d)
 
 -- the score of markers each pulse of which is counted once
 abbrev pub full_score : Parameters → List ℕ → ℕ
@@ -38,8 +43,8 @@ pub record IsDecodedClear (p : Parameters) (octets : List ℕ) (d : ℕ) : Type 
   pub offset : offset_of p (clear_counts p octets d) ≡ clear_offset p octets d
   pub lit : offset_of p (clear_counts p octets d) ≢ Dark
   pub verdicts : verdicts_of p (clear_counts p octets d) ≡ tabulate (block_count p octets) (λ w. Kept 1 (block_from (bit_stream p octets) (block_bits p.rate) w))
-  pub frames : decoded p (clear_counts p octets d) ≡ octets
-  pub tally : tally_of p (clear_counts p octets d) ≡ clear_tally p octets d
+  pub frames : decoded p (clear_octets p octets d) ≡ octets
+  pub tally : tally_of p (clear_octets p octets d) ≡ clear_tally p octets d
 
 -- under every valid profile, whole frames come back behind fewer dark slots than a period has
 abbrev pub ClearChannelIsDecoded : Type 0

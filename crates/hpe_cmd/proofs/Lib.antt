@@ -1,6 +1,10 @@
 pub mod Counting
 pub mod SentLine
-pub mod BasicProfile
+pub mod CommandLaws
+pub mod Numbers
 pub mod DecodeStatus
 pub mod ClearRun
-pub mod CutRun
+pub mod Moved
+pub mod EncodeCases
+pub mod DecodeCases
+pub mod ActCases

@@ -1,6 +1,8 @@
 pub mod Words
-pub mod Encoding
-pub mod GeometryLine
 pub mod Statuses
 pub mod FaultLines
-pub mod Decoding
+pub mod Changes
+pub mod EncodeRun
+pub mod DecodeRun
+pub mod GeometryRun
+pub mod Runs

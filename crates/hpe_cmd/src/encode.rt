@@ -1,14 +1,11 @@
-// The action `encode`: transfer frames to slots, and a line on what was sent.
+//! The action `encode`: transfer frames to slots, and a line on what was sent.
 
-ghost use Rattle.std.specs.Prelude.{◌≡◌, ◌≢◌, ◌≤◌, ◌<◌, ◌+◌, ◌*◌, ◌%◌, ◌^◌, ℕ, List, length, IsTrue};
-ghost use Rattle.std.specs.Io.KnownBytes.{append_known};
-ghost use Rattle.hpe_base.specs.Parameters.{period_slots};
-ghost use Rattle.hpe_base.specs.Slots.{flush_words};
-ghost use Rattle.hpe_io.specs.Devices.{Rose, TakesCount, TakesAtMost, GrowsByFront, Grows};
-ghost use Rattle.hpe_cmd.specs.Encoding.{Encodes, CutsOff, encode_line, sent_line, sent_slots};
-ghost use Rattle.hpe_cmd.specs.Statuses.{status_of, is_cut};
+ghost use Rattle.std.specs.Prelude.{◌≡◌, ◌≤◌, ◌<◌, ◌^◌, length, IfErr, IfOk};
+ghost use Rattle.hpe_io.specs.Standing.{SinkStands, SourceStands};
+ghost use Rattle.hpe_cmd.specs.Changes.{change};
+ghost use Rattle.hpe_cmd.specs.EncodeRun.{EncodeRun, Reports, sent_line, sent_slots, unsent};
 
-use crate::ending::{Ending, LIMIT};
+use crate::ending::{Ending, Status};
 use hpe_base::{Profile, geometry};
 use hpe_io::{Sink, Source};
 use hpe_send::{SendFault, Sender, Sent};
@@ -41,69 +38,55 @@ fn sent_line(p: &Profile, sent: &Sent) -> Line
     line
 }
 
-/// Puts the line on what was sent.
-fn report_sent<R: Sink>(p: &Profile, sent: &Sent, report: &mut R) -> Ending
-    requires { sent.now.words ≤ 2 ^ 34 }
-    ensures done { result ≡ Ending.Done → R.written report.new
-        ≡ append_known (R.written report.old) (sent_line sent.now.frames sent.now.words (sent_slots p.now sent.now.words)) }
-    ensures cut { result ≢ Ending.Done → (result ≡ Ending.ReportFault) × Rose (R.faults report.old) (R.faults report.new)
-        × GrowsByFront (R.written report.old) (R.written report.new) (sent_line sent.now.frames sent.now.words (sent_slots p.now sent.now.words)) }
-    ensures later { R.faults report.old ≤ R.faults report.new }
-    ensures mark { R.mark report.new ≡ R.mark report.old }
+/// How a run ends where not all was sent of an input of at most `limit` octets.
+fn unsent(limit: u64, fault: SendFault) -> Ending
+    ensures { result ≡ unsent limit fault }
 {
-    match report.put(sent_line(p, sent).as_bytes()) {
-        Ok(()) => Ending::Done,
-        Err(_) => Ending::ReportFault,
+    match fault {
+        SendFault::Read => Ending::ReadFault,
+        SendFault::Write => Ending::WriteFault,
+        SendFault::TooLong => Ending::TooLong { limit },
+        SendFault::Ragged { rest, .. } => Ending::Ragged { rest },
     }
 }
 
-/// Encodes the whole frames of the input, and puts a line on them where nothing is left over.
+/// Puts the line on what was sent.
+fn report_sent<R: Sink>(p: &Profile, sent: &Sent, report: &mut R) -> Status
+    requires { sent.now.words ≤ 2 ^ 34 }
+    ensures told { Reports (change R.written R.faults report.old report.new)
+        (sent_line sent.now.frames sent.now.words (sent_slots p.now sent.now.words)) result }
+    ensures report { SinkStands R.faults R.mark report.old report.new }
+{
+    match report.put(sent_line(p, sent).as_bytes()) {
+        Ok(()) => Status::Done,
+        Err(_) => Status::ReportFault,
+    }
+}
+
+/// Encodes the whole frames of the input, of at most `limit` octets, and puts a line on them where nothing is left over.
+/// Without memory nothing is done.
 pub fn encode<I: Source, O: Sink, R: Sink>(
     alloc: Global,
     p: &Profile,
+    limit: u64,
     input: &mut I,
     output: &mut O,
     report: &mut R,
-) -> Ending
-    ensures done { result ≡ Ending.Done → (octets : List ℕ)
-        × Encodes p.now LIMIT (I.left input.old) (I.left input.new) (O.written output.old) (O.written output.new) octets
-        × (length octets % p.now.frame_octets ≡ 0)
-        × (R.written report.new ≡ append_known (R.written report.old) (encode_line p.now octets)) }
-    ensures unreported { result ≡ Ending.ReportFault → (octets : List ℕ)
-        × Encodes p.now LIMIT (I.left input.old) (I.left input.new) (O.written output.old) (O.written output.new) octets
-        × (length octets % p.now.frame_octets ≡ 0)
-        × GrowsByFront (R.written report.old) (R.written report.new) (encode_line p.now octets) }
-    ensures ragged { (rest : ℕ) → result ≡ Ending.Ragged rest → (octets : List ℕ)
-        × Encodes p.now LIMIT (I.left input.old) (I.left input.new) (O.written output.old) (O.written output.new) octets
-        × (rest ≡ length octets % p.now.frame_octets) × (0 < rest) }
-    ensures cut { IsTrue (is_cut (status_of result)) → CutsOff p.now LIMIT (I.left input.old) (I.left input.new) (O.written output.old) (O.written output.new) }
-    ensures long { result ≡ Ending.TooLong → TakesCount (I.left input.old) (I.left input.new) (LIMIT + 1) }
-    ensures read { result ≡ Ending.ReadFault → Rose (I.faults input.old) (I.faults input.new) }
-    ensures write { result ≡ Ending.WriteFault → Rose (O.faults output.old) (O.faults output.new) }
-    ensures report { result ≡ Ending.ReportFault → Rose (R.faults report.old) (R.faults report.new) }
-    ensures memory { result ≡ Ending.NoMemory → (output.new ≡ output.old) × (input.new ≡ input.old) }
-    ensures usage { result ≢ Ending.Usage }
-    ensures words_lost { result ≢ Ending.WordsLost }
-    ensures no_marker { result ≢ Ending.NoMarker }
-    ensures silent { result ≢ Ending.Done → result ≢ Ending.ReportFault → report.new ≡ report.old }
-    ensures taken { TakesAtMost (I.left input.old) (I.left input.new) (LIMIT + 1) }
-    ensures grows { Grows (O.written output.old) (O.written output.new) }
-    ensures input_later { I.faults input.old ≤ I.faults input.new }
-    ensures output_later { O.faults output.old ≤ O.faults output.new }
-    ensures report_later { R.faults report.old ≤ R.faults report.new }
-    ensures input_mark { I.mark input.new ≡ I.mark input.old }
-    ensures output_mark { O.mark output.new ≡ O.mark output.old }
-    ensures report_mark { R.mark report.new ≡ R.mark report.old }
-    ensures build { I.build input.new ≡ I.build input.old }
+) -> Result<Status, Ending>
+    requires limit { (1 ≤ limit) × (limit ≤ 2 ^ 40) }
+    ensures ok { IfOk result (λ status. EncodeRun p.now limit (change I.left I.faults input.old input.new)
+        (change O.written O.faults output.old output.new) (change R.written R.faults report.old report.new) status) }
+    ensures err { IfErr result (λ e. (e ≡ Ending.NoMemory)
+        × (input.new ≡ input.old) × (output.new ≡ output.old) × (report.new ≡ report.old)) }
+    ensures input { SourceStands I.faults I.mark I.build input.old input.new }
+    ensures output { SinkStands O.faults O.mark output.old output.new }
+    ensures report { SinkStands R.faults R.mark report.old report.new }
 {
     let Ok(sender) = Sender::new(alloc, p) else {
-        return Ending::NoMemory;
+        return Err(Ending::NoMemory);
     };
-    match sender.send(LIMIT, input, output) {
-        Ok(sent) => report_sent(p, &sent, report),
-        Err(SendFault::Read) => Ending::ReadFault,
-        Err(SendFault::Write) => Ending::WriteFault,
-        Err(SendFault::TooLong) => Ending::TooLong,
-        Err(SendFault::Ragged { rest, .. }) => Ending::Ragged { rest },
+    match sender.send(limit, input, output) {
+        Ok(sent) => Ok(report_sent(p, &sent, report)),
+        Err(fault) => Ok(unsent(limit, fault).end(report)),
     }
 }

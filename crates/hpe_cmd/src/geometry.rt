@@ -1,10 +1,13 @@
-// The action `geometry`: the measures of a profile in one line.
-ghost use Rattle.std.specs.Prelude.{◌≡◌, ◌<◌, ◌≤◌, length};
-ghost use Rattle.hpe_io.specs.Devices.{Puts, HasCause};
-ghost use Rattle.hpe_cmd.specs.GeometryLine.{geometry_line, rate_text};
+//! The action `geometry`: the measures of a profile in one line.
 
+ghost use Rattle.std.specs.Prelude.{◌≡◌, ◌<◌, ◌≤◌, length};
+ghost use Rattle.hpe_io.specs.Standing.{SinkStands};
+ghost use Rattle.hpe_cmd.specs.Changes.{change};
+ghost use Rattle.hpe_cmd.specs.GeometryRun.{GeometryRun, geometry_line, rate_text};
+
+use crate::ending::{Ending, Status};
 use hpe_base::{Profile, Rate, geometry};
-use hpe_io::{Failed, Sink};
+use hpe_io::Sink;
 use hpe_text::{Line, push_entry};
 
 /// The rate as it is written in a profile.
@@ -40,11 +43,16 @@ fn geometry_line(p: &Profile) -> Line
     line
 }
 
-/// Puts the line.
-pub fn put_geometry<O: Sink>(p: &Profile, output: &mut O) -> Result<(), Failed>
-    ensures bytes { Puts (O.written output.old) (O.written output.new) result (geometry_line p.now) }
-    ensures cause { HasCause (O.faults output.old) (O.faults output.new) result }
-    ensures mark { O.mark output.new ≡ O.mark output.old }
+/// Writes the measures of the profile.
+pub fn geometry_of<O: Sink, R: Sink>(p: &Profile, output: &mut O, report: &mut R) -> Status
+    ensures run { GeometryRun p.now
+        (change O.written O.faults output.old output.new) (change R.written R.faults report.old report.new) result }
+    ensures silent { result ≡ Status.Done → report.new ≡ report.old }
+    ensures output { SinkStands O.faults O.mark output.old output.new }
+    ensures report { SinkStands R.faults R.mark report.old report.new }
 {
-    output.put(geometry_line(p).as_str().as_bytes())
+    match output.put(geometry_line(p).as_str().as_bytes()) {
+        Ok(()) => Status::Done,
+        Err(_) => Ending::WriteFault.end(report),
+    }
 }

@@ -1,181 +1,158 @@
-// What the program does for its words.
+//! What the program does for its words.
 
-ghost use Rattle.std.specs.Prelude.{◌≡◌, ◌≢◌, ◌≤◌, ◌<◌, ◌+◌, ◌↔◌, ◌⊎◌, ◌%◌, ℕ, List, length, All, Some, IsTrue};
-ghost use Rattle.std.specs.Io.KnownBytes.{append_known};
-ghost use Rattle.hpe_base.specs.ClearChannel.{clear};
-ghost use Rattle.hpe_base.specs.Parameters.{basic, period_slots};
-ghost use Rattle.hpe_base.specs.Slots.{slots_of};
-ghost use Rattle.hpe_io.specs.Devices.{Rose, TakesCount, TakesAtMost, GrowsByFront, Grows};
-ghost use Rattle.hpe_recv.specs.Receiving.{Receives, ReceivesPart, ReportsWords};
-ghost use Rattle.hpe_cmd.specs.Decoding.{CutsDecoding, Says, cut_line, decode_status, is_cut_off, is_received};
-ghost use Rattle.hpe_cmd.specs.Encoding.{Encodes, CutsOff, encode_line};
-ghost use Rattle.hpe_cmd.specs.FaultLines.{IsPut, usage_line, read_line, write_line, memory_line, limit_line, ragged_line};
-ghost use Rattle.hpe_cmd.specs.GeometryLine.{geometry_line};
-ghost use Rattle.hpe_cmd.specs.Statuses.{is_cut, status_of};
-ghost use Rattle.hpe_cmd.specs.Words.{AsksFor, AsksNothing};
+ghost use Rattle.std.specs.Prelude.{◌≡◌, ◌≤◌, ◌+◌, ◌^◌, IfErr, IfOk, IfSome, IsTrue, Ok, Some};
+ghost use Rattle.hpe_io.specs.Devices.{Grows, TakesAtMost};
+ghost use Rattle.hpe_io.specs.Standing.{SinkStands, SourceStands};
+ghost use Rattle.hpe_cmd.specs.Changes.{change};
+ghost use Rattle.hpe_cmd.specs.DecodeRun.{DecodeRun};
+ghost use Rattle.hpe_cmd.specs.EncodeRun.{EncodeRun};
+ghost use Rattle.hpe_cmd.specs.GeometryRun.{GeometryRun};
+ghost use Rattle.hpe_cmd.specs.Runs.{ActRun, Acts, EarlyRun, Follows, IsUsage, Settles, ShelfRun, WhereAsked, ending_of, opened, status_in};
+ghost use Rattle.hpe_cmd.specs.Statuses.{is_early, status_of};
+ghost use Rattle.hpe_cmd.specs.Words.{Request, asked, texts_of};
 
 use crate::decode::decode;
 use crate::encode::encode;
-use crate::ending::{Ending, LIMIT, Status};
-use crate::geometry::put_geometry;
-use crate::words::{Action, asked};
+use crate::ending::{Ending, Status};
+use crate::geometry::geometry_of;
+use crate::open::open_profile;
+use crate::words::{Action, Asked, Refusal, read_words};
 use hpe_base::Profile;
-use hpe_io::{Sink, Source};
+use hpe_io::{Shelf, Sink, Source};
 use std::alloc::Global;
+use std::thread::Threads;
 
 /// What a run answers: how it ended, and the input that it was given.
 #[derive(Drop)]
 pub struct Ended<I> {
+    /// How the run ended.
     pub status: Status,
+    /// The input, of which what the run took is gone.
     pub input: I,
 }
 
-/// Does what the words ask, short of the fault line.
-fn act<I: Source, O: Sink, R: Sink>(
+/// Does the action under the profile. Without memory nothing is done.
+fn act<T: Threads + Sync, I: Source, O: Sink, R: Sink>(
+    rt: &T,
     alloc: Global,
-    words: &[String],
+    asked: &Asked,
+    p: &Profile,
     input: &mut I,
     output: &mut O,
     report: &mut R,
-) -> Ending
-    ensures usage { (result ≡ Ending.Usage) ↔ AsksNothing words.now }
-    ensures done { AsksFor words.now Action.Encode → result ≡ Ending.Done → (octets : List ℕ)
-        × Encodes basic LIMIT (I.left input.old) (I.left input.new) (O.written output.old) (O.written output.new) octets
-        × (length octets % 100 ≡ 0)
-        × (R.written report.new ≡ append_known (R.written report.old) (encode_line basic octets)) }
-    ensures unreported { AsksFor words.now Action.Encode → result ≡ Ending.ReportFault → (octets : List ℕ)
-        × Encodes basic LIMIT (I.left input.old) (I.left input.new) (O.written output.old) (O.written output.new) octets
-        × (length octets % 100 ≡ 0)
-        × GrowsByFront (R.written report.old) (R.written report.new) (encode_line basic octets) }
-    ensures ragged { (rest : ℕ) → result ≡ Ending.Ragged rest → (octets : List ℕ)
-        × Encodes basic LIMIT (I.left input.old) (I.left input.new) (O.written output.old) (O.written output.new) octets
-        × (rest ≡ length octets % 100) × (0 < rest) }
-    ensures ragged_quiet { (rest : ℕ) → result ≡ Ending.Ragged rest → report.new ≡ report.old }
-    ensures cut { AsksFor words.now Action.Encode → IsTrue (is_cut (status_of result))
-        → CutsOff basic LIMIT (I.left input.old) (I.left input.new) (O.written output.old) (O.written output.new) }
-    ensures decoded { AsksFor words.now Action.Decode → IsTrue (is_received (status_of result)) → (counts : List ℕ)
-        × Receives basic LIMIT (I.left input.old) (I.left input.new) (O.written output.old) (O.written output.new) (R.written report.old) (R.written report.new) counts
-        × (status_of result ≡ decode_status basic counts) }
-    ensures decode_cut { AsksFor words.now Action.Decode → IsTrue (is_cut_off (status_of result))
-        → ReceivesPart basic LIMIT (I.left input.old) (I.left input.new) (O.written output.old) (O.written output.new) (R.written report.old) (R.written report.new) }
-    ensures lines { AsksFor words.now Action.Decode → IsTrue (is_cut (status_of result))
-        → ReportsWords basic LIMIT (I.left input.old) (I.left input.new) (R.written report.old) (R.written report.new) }
-    ensures ends { AsksFor words.now Action.Decode
-        → IsTrue (is_received (status_of result)) ⊎ (IsTrue (is_cut_off (status_of result)) ⊎ (result ≡ Ending.NoMemory)) }
-    ensures words_lost { result ≡ Ending.WordsLost → AsksFor words.now Action.Decode }
-    ensures no_marker { result ≡ Ending.NoMarker → AsksFor words.now Action.Decode }
-    ensures long { result ≡ Ending.TooLong → TakesCount (I.left input.old) (I.left input.new) (LIMIT + 1) }
-    ensures read { result ≡ Ending.ReadFault → Rose (I.faults input.old) (I.faults input.new) }
-    ensures write { result ≡ Ending.WriteFault → Rose (O.faults output.old) (O.faults output.new) }
-    ensures report { result ≡ Ending.ReportFault → Rose (R.faults report.old) (R.faults report.new) }
-    ensures memory { result ≡ Ending.NoMemory → (output.new ≡ output.old) × (input.new ≡ input.old) × (report.new ≡ report.old) }
-    ensures quiet { result ≡ Ending.Usage → (output.new ≡ output.old) × (report.new ≡ report.old) }
-    ensures line { AsksFor words.now Action.Geometry → result ≡ Ending.Done
-        → O.written output.new ≡ append_known (O.written output.old) (geometry_line basic) }
-    ensures line_cut { AsksFor words.now Action.Geometry → result ≢ Ending.Done
-        → (result ≡ Ending.WriteFault) × GrowsByFront (O.written output.old) (O.written output.new) (geometry_line basic) }
-    ensures unread { (AsksFor words.now Action.Encode → ⊥) → (AsksFor words.now Action.Decode → ⊥) → input.new ≡ input.old }
-    ensures silent { (AsksFor words.now Action.Encode → ⊥) → (AsksFor words.now Action.Decode → ⊥) → report.new ≡ report.old }
-    ensures silent_fault { (AsksFor words.now Action.Decode → ⊥) → result ≢ Ending.Done → result ≢ Ending.ReportFault → report.new ≡ report.old }
-    ensures taken { TakesAtMost (I.left input.old) (I.left input.new) (LIMIT + 1) }
-    ensures grows { Grows (O.written output.old) (O.written output.new) }
-    ensures input_later { I.faults input.old ≤ I.faults input.new }
-    ensures output_later { O.faults output.old ≤ O.faults output.new }
-    ensures report_later { R.faults report.old ≤ R.faults report.new }
-    ensures input_mark { I.mark input.new ≡ I.mark input.old }
-    ensures output_mark { O.mark output.new ≡ O.mark output.old }
-    ensures report_mark { R.mark report.new ≡ R.mark report.old }
-    ensures build { I.build input.new ≡ I.build input.old }
+) -> Result<Status, Ending>
+    requires one { p.now.count_octets ≡ 1 }
+    requires limit { (1 ≤ asked.now.limit) × (asked.now.limit ≤ 2 ^ 40) }
+    ensures ok { IfOk result (λ status. ActRun asked.now.action p.now asked.now.limit
+        (change I.left I.faults input.old input.new)
+        (change O.written O.faults output.old output.new) (change R.written R.faults report.old report.new) status) }
+    ensures err { IfErr result (λ e. (e ≡ Ending.NoMemory)
+        × (input.new ≡ input.old) × (output.new ≡ output.old) × (report.new ≡ report.old)) }
+    ensures geometry { asked.now.action ≡ Action.Geometry
+        → (input.new ≡ input.old) × (result ≡ Ok Status.Done → report.new ≡ report.old) }
+    ensures input { SourceStands I.faults I.mark I.build input.old input.new }
+    ensures output { SinkStands O.faults O.mark output.old output.new }
+    ensures report { SinkStands R.faults R.mark report.old report.new }
 {
-    let p = Profile::basic();
-    match asked(words) {
-        None => Ending::Usage,
-        Some(Action::Encode) => encode(alloc, &p, input, output, report),
-        Some(Action::Decode) => decode(alloc, &p, input, output, report),
-        Some(Action::Geometry) => match put_geometry(&p, output) {
-            Ok(()) => Ending::Done,
-            Err(_) => Ending::WriteFault,
-        },
+    match asked.action {
+        Action::Encode => encode(alloc, p, asked.limit, input, output, report),
+        Action::Decode => decode(rt, alloc, p, asked.limit, input, output, report),
+        Action::Geometry => Ok(geometry_of(p, output, report)),
     }
 }
 
-/// Does what the words ask. `words` holds the program's name first. After a fault one line on it follows on the report.
-pub fn run<T: AllocGlobal, I: Source, O: Sink, R: Sink>(
+/// How a run ends that its words don't begin.
+fn ending_of(refusal: Refusal) -> Ending
+    ensures { result ≡ ending_of refusal }
+{
+    match refusal {
+        Refusal::Usage => Ending::Usage,
+        Refusal::NoMemory => Ending::NoMemory,
+    }
+}
+
+/// Reads the words, opens the profile and acts. The error is an ending of which the report knows nothing yet, and no
+/// device was touched then.
+fn follow<T: AllocGlobal + Threads + Sync, S: Shelf, I: Source, O: Sink, R: Sink>(
     rt: &T,
     words: &[String],
+    shelf: &mut S,
+    input: &mut I,
+    output: &mut O,
+    report: &mut R,
+) -> Result<Status, Ending>
+    ensures ok { IfOk result (λ status. Acts (asked (texts_of words.now)) (S.texts shelf.old)
+        (change I.left I.faults input.old input.new)
+        (change O.written O.faults output.old output.new) (change R.written R.faults report.old report.new) status) }
+    ensures err { IfErr result (λ e. IsTrue (is_early (status_of e))
+        × (input.new ≡ input.old) × (output.new ≡ output.old) × (report.new ≡ report.old)) }
+    ensures usage { IsUsage (asked (texts_of words.now)) (status_in result) }
+    ensures profile { (r : Request) → asked (texts_of words.now) ≡ Some r
+        → IfSome (opened (S.texts shelf.old) r.profile) (λ settled. Follows settled result) }
+    ensures shelf { ShelfRun (asked (texts_of words.now)) S.texts S.faults shelf.old shelf.new (status_in result) }
+    ensures geometry { (r : Request) → asked (texts_of words.now) ≡ Some r → r.action ≡ Action.Geometry
+        → (input.new ≡ input.old) × (status_in result ≡ Status.Done → report.new ≡ report.old) }
+    ensures taken { TakesAtMost (I.left input.old) (I.left input.new) (2 ^ 40 + 1) }
+    ensures grows { Grows (O.written output.old) (O.written output.new) }
+    ensures input { SourceStands I.faults I.mark I.build input.old input.new }
+    ensures output { SinkStands O.faults O.mark output.old output.new }
+    ensures report { SinkStands R.faults R.mark report.old report.new }
+{
+    let alloc = rt.alloc();
+    let asked = match read_words(alloc, words) {
+        Ok(asked) => asked,
+        Err(refusal) => return Err(ending_of(refusal)),
+    };
+    let p = open_profile(alloc, shelf, asked.profile)?;
+    act(rt, alloc, &asked, &p, input, output, report)
+}
+
+/// Does what the words ask. `words` holds the program's name first. After a fault one line on it follows on the report.
+pub fn run<T: AllocGlobal + Threads + Sync, S: Shelf, I: Source, O: Sink, R: Sink>(
+    rt: &T,
+    words: &[String],
+    shelf: &mut S,
     mut input: I,
     output: &mut O,
     report: &mut R,
 ) -> Ended<I>
-    ensures usage { (result.status ≡ Status.Usage) ↔ AsksNothing words.now }
-    ensures usage_line { result.status ≡ Status.Usage
-        → IsPut (R.faults report.old) (R.faults report.new) (R.written report.old) (R.written report.new) usage_line }
+    // The words and the profile.
+    ensures usage { IsUsage (asked (texts_of words.now)) result.status }
+    ensures profile { (r : Request) → asked (texts_of words.now) ≡ Some r
+        → IfSome (opened (S.texts shelf.old) r.profile) (λ settled.
+        Settles settled (change R.written R.faults report.old report.new) result.status) }
+    ensures shelf { ShelfRun (asked (texts_of words.now)) S.texts S.faults shelf.old shelf.new result.status }
+    ensures early { IsTrue (is_early result.status) → (result.input ≡ input) × (output.new ≡ output.old)
+        × EarlyRun (change R.written R.faults report.old report.new) result.status }
 
-    // `encode`: the slots of the whole frames are written where the input was read to its end.
-    ensures done { AsksFor words.now Action.Encode → result.status ≡ Status.Done → (octets : List ℕ)
-        × Encodes basic LIMIT (I.left input) (I.left result.input) (O.written output.old) (O.written output.new) octets
-        × (length octets % 100 ≡ 0)
-        × (R.written report.new ≡ append_known (R.written report.old) (encode_line basic octets)) }
-    ensures unreported { AsksFor words.now Action.Encode → result.status ≡ Status.ReportFault → (octets : List ℕ)
-        × Encodes basic LIMIT (I.left input) (I.left result.input) (O.written output.old) (O.written output.new) octets
-        × (length octets % 100 ≡ 0)
-        × GrowsByFront (R.written report.old) (R.written report.new) (encode_line basic octets) }
-    ensures ragged { result.status ≡ Status.Ragged → (octets : List ℕ)
-        × Encodes basic LIMIT (I.left input) (I.left result.input) (O.written output.old) (O.written output.new) octets
-        × (0 < length octets % 100)
-        × IsPut (R.faults report.old) (R.faults report.new) (R.written report.old) (R.written report.new) (ragged_line (length octets % 100)) }
-    ensures cut { AsksFor words.now Action.Encode → IsTrue (is_cut result.status)
-        → CutsOff basic LIMIT (I.left input) (I.left result.input) (O.written output.old) (O.written output.new) }
+    // The actions.
+    ensures encode { WhereAsked (asked (texts_of words.now)) (S.texts shelf.old) Action.Encode result.status
+        (λ p limit. EncodeRun p limit (change I.left I.faults input result.input)
+        (change O.written O.faults output.old output.new)
+        (change R.written R.faults report.old report.new) result.status) }
+    ensures decode { WhereAsked (asked (texts_of words.now)) (S.texts shelf.old) Action.Decode result.status
+        (λ p limit. DecodeRun p limit (change I.left I.faults input result.input)
+        (change O.written O.faults output.old output.new)
+        (change R.written R.faults report.old report.new) result.status) }
+    ensures geometry { WhereAsked (asked (texts_of words.now)) (S.texts shelf.old) Action.Geometry result.status
+        (λ p limit. GeometryRun p
+        (change O.written O.faults output.old output.new)
+        (change R.written R.faults report.old report.new) result.status) }
+    ensures untouched { (r : Request) → asked (texts_of words.now) ≡ Some r → r.action ≡ Action.Geometry
+        → (result.input ≡ input) × (result.status ≡ Status.Done → report.new ≡ report.old) }
 
-    // `decode`: the frames are written and the report is put where the input was read to its end. Where the slots of whole
-    // frames come as they were sent, after dark slots for less than a period, the frames come back.
-    ensures decoded { AsksFor words.now Action.Decode → IsTrue (is_received result.status) → (counts : List ℕ)
-        × Receives basic LIMIT (I.left input) (I.left result.input) (O.written output.old) (O.written output.new) (R.written report.old) (R.written report.new) counts
-        × (result.status ≡ decode_status basic counts) }
-    ensures clear { AsksFor words.now Action.Decode → IsTrue (is_received result.status) → (octets : List ℕ) (d : ℕ)
-        → All (λ octet. octet < 256) octets → length octets % 100 ≡ 0 → d < period_slots basic
-        → I.left input ≡ Some (clear d (slots_of basic octets))
-        → (result.status ≡ Status.Done) × (O.written output.new ≡ append_known (O.written output.old) octets) }
-    ensures decode_cut { AsksFor words.now Action.Decode → IsTrue (is_cut_off result.status)
-        → CutsDecoding basic LIMIT (I.left input) (I.left result.input) (O.written output.old) (O.written output.new)
-        (R.faults report.old) (R.faults report.new) (R.written report.old) (R.written report.new) (cut_line LIMIT result.status) }
-    ensures ends { AsksFor words.now Action.Decode
-        → IsTrue (is_received result.status) ⊎ (IsTrue (is_cut_off result.status) ⊎ (result.status ≡ Status.NoMemory)) }
-    ensures words_lost { result.status ≡ Status.WordsLost → AsksFor words.now Action.Decode }
-    ensures no_marker { result.status ≡ Status.NoMarker → AsksFor words.now Action.Decode }
-
-    // `geometry`: the line is written, or a front of it where the output failed.
-    ensures line { AsksFor words.now Action.Geometry → result.status ≡ Status.Done
-        → (O.written output.new ≡ append_known (O.written output.old) (geometry_line basic)) × (report.new ≡ report.old) }
-    ensures line_cut { AsksFor words.now Action.Geometry → result.status ≢ Status.Done
-        → (result.status ≡ Status.WriteFault) × GrowsByFront (O.written output.old) (O.written output.new) (geometry_line basic) }
-    ensures unread { (AsksFor words.now Action.Encode → ⊥) → (AsksFor words.now Action.Decode → ⊥) → result.input ≡ input }
-
-    // What holds for all words. The line on a fault that cut a decoding off follows those on its words.
-    ensures long { result.status ≡ Status.TooLong → TakesCount (I.left input) (I.left result.input) (LIMIT + 1)
-        × Says words.now basic LIMIT (I.left input) (I.left result.input) (R.faults report.old) (R.faults report.new) (R.written report.old) (R.written report.new) (limit_line LIMIT) }
-    ensures read { result.status ≡ Status.ReadFault → Rose (I.faults input) (I.faults result.input)
-        × Says words.now basic LIMIT (I.left input) (I.left result.input) (R.faults report.old) (R.faults report.new) (R.written report.old) (R.written report.new) read_line }
-    ensures write { result.status ≡ Status.WriteFault → Rose (O.faults output.old) (O.faults output.new)
-        × Says words.now basic LIMIT (I.left input) (I.left result.input) (R.faults report.old) (R.faults report.new) (R.written report.old) (R.written report.new) write_line }
-    ensures report { result.status ≡ Status.ReportFault → Rose (R.faults report.old) (R.faults report.new) }
-    ensures memory { result.status ≡ Status.NoMemory → (output.new ≡ output.old) × (result.input ≡ input)
-        × IsPut (R.faults report.old) (R.faults report.new) (R.written report.old) (R.written report.new) memory_line }
-    ensures quiet { result.status ≡ Status.Usage → output.new ≡ output.old }
-    ensures taken { TakesAtMost (I.left input) (I.left result.input) (LIMIT + 1) }
+    // The devices.
+    ensures taken { TakesAtMost (I.left input) (I.left result.input) (2 ^ 40 + 1) }
     ensures grows { Grows (O.written output.old) (O.written output.new) }
-    ensures input_later { I.faults input ≤ I.faults result.input }
-    ensures output_later { O.faults output.old ≤ O.faults output.new }
-    ensures report_later { R.faults report.old ≤ R.faults report.new }
-    ensures input_mark { I.mark result.input ≡ I.mark input }
-    ensures output_mark { O.mark output.new ≡ O.mark output.old }
-    ensures report_mark { R.mark report.new ≡ R.mark report.old }
-    ensures build { I.build result.input ≡ I.build input }
+    ensures input { SourceStands I.faults I.mark I.build input result.input }
+    ensures output { SinkStands O.faults O.mark output.old output.new }
+    ensures report { SinkStands R.faults R.mark report.old report.new }
 {
-    let ending = act(rt.alloc(), words, &mut input, output, report);
-    ending.say(report);
-    Ended {
-        status: ending.status(),
-        input,
+    match follow(rt, words, shelf, &mut input, output, report) {
+        Ok(status) => Ended { status, input },
+        Err(ending) => {
+            let status = ending.end(report);
+            Ended { status, input }
+        }
     }
 }

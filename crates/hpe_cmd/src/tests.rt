@@ -1,12 +1,12 @@
-use crate::ending::{LIMIT, Status};
+//! Runs of the program over devices in memory.
+
+use crate::ending::Status;
 use crate::run::run;
-use hpe_base::{Fields, Profile};
-use hpe_io::{MemSink, MemSource, SureSource};
-use hpe_recv::{Receiver, Tally};
-use hpe_send::{Sender, Sent};
+use hpe_io::{MemShelf, MemSink, MemSource};
 use std::alloc::Global;
 use std::process::Abort;
 use std::test::Fail;
+use std::thread::Threads;
 
 /// The slots of one frame of zeros under the built-in profile: one period.
 const PERIOD: usize = 75_920;
@@ -17,9 +17,24 @@ const PULSES: usize = 3_796;
 /// Room for any report.
 const ROOM: usize = 200;
 
+const ENCODE: &[&str] = &["hpe", "encode"];
+
+const DECODE: &[&str] = &["hpe", "decode"];
+
+const USAGE: &str = "usage: hpe encode, decode, geometry or simulate, with options\n";
+
 /// So many zero octets.
 fn zeros(alloc: Global, count: usize) -> Result<Vec<u8>, Fail> {
     let octets = vec![in alloc; 0; count]?;
+    Ok(octets)
+}
+
+/// So many octets, of which octet `n` is `n` modulo 251.
+fn counting(alloc: Global, count: usize) -> Result<Vec<u8>, Fail> {
+    let mut octets = zeros(alloc, count)?;
+    for (n, octet) in octets.iter_mut().enumerate() {
+        *octet = (n % 251) as u8;
+    }
     Ok(octets)
 }
 
@@ -43,179 +58,6 @@ fn pulses(alloc: Global, slots: &[u8]) -> Result<Vec<usize>, Fail> {
     Ok(places)
 }
 
-#[test]
-fn whole_and_ragged_inputs(rt: HostRuntime) -> Result<(), Fail> {
-    let command = words(rt.alloc(), &["hpe", "encode"])?;
-    for (octets, status, periods, line) in [
-        (0, Status::Done, 0, "frames 0 words 0 slots 0\n"),
-        (1, Status::Ragged, 0, "ragged: rest 1\n"),
-        (100, Status::Done, 1, "frames 1 words 1 slots 75920\n"),
-        (101, Status::Ragged, 1, "ragged: rest 1\n"),
-        (3_000, Status::Done, 5, "frames 30 words 5 slots 379600\n"),
-    ] {
-        let octets = zeros(rt.alloc(), octets)?;
-        let input = SureSource::new(rt.alloc(), &octets, &[65_536, 7])?;
-        let mut output = MemSink::new(rt.alloc(), 5 * PERIOD, &[])?;
-        let mut report = MemSink::new(rt.alloc(), ROOM, &[])?;
-        let ended = run(&rt, &command, input, &mut output, &mut report);
-        assert_eq!(rt; ended.status, status);
-        assert_eq!(rt; report.bytes(), line.as_bytes());
-        assert_eq!(rt; output.bytes().len(), periods * PERIOD);
-        let places = pulses(rt.alloc(), output.bytes())?;
-        assert_eq!(rt; places.len(), periods * PULSES);
-        if periods == 1 {
-            // The marker begins 0, 5, 15, 14, and the codeword begins 12, 14.
-            assert_eq!(rt; &places[..4], [0, 25, 55, 74].as_slice());
-            assert_eq!(rt; &places[16..18], [332, 354].as_slice());
-        }
-    }
-    Ok(())
-}
-
-#[test]
-fn measures_in_a_line(rt: HostRuntime) -> Result<(), Fail> {
-    let command = words(rt.alloc(), &["hpe", "geometry"])?;
-    let line =
-        b"order 16 rate 1/3 steps 5040 block 5006 symbols 3780 marker 16 period 75920 depth 0 flush 0\n";
-    for (room, status, fault) in [
-        (line.len(), Status::Done, ""),
-        (8, Status::WriteFault, "write fault\n"),
-    ] {
-        let input = MemSource::new(rt.alloc(), &[0], &[], &[0])?;
-        let mut output = MemSink::new(rt.alloc(), room, &[])?;
-        let mut report = MemSink::new(rt.alloc(), ROOM, &[])?;
-        let ended = run(&rt, &command, input, &mut output, &mut report);
-        assert_eq!(rt; ended.status, status);
-        assert_eq!(rt; output.bytes(), &line[..room]);
-        assert_eq!(rt; report.bytes(), fault.as_bytes());
-    }
-    Ok(())
-}
-
-#[test]
-fn other_words(rt: HostRuntime) -> Result<(), Fail> {
-    let commands: [&[&str]; 6] = [
-        &[],
-        &["hpe"],
-        &["hpe", "mend"],
-        &["hpe", "--help"],
-        &["hpe", "Encode"],
-        &["hpe", "encode", "encode"],
-    ];
-    for texts in commands {
-        let command = words(rt.alloc(), texts)?;
-        let input = MemSource::new(rt.alloc(), &[0], &[], &[0])?;
-        let mut output = MemSink::new(rt.alloc(), 0, &[])?;
-        let mut report = MemSink::new(rt.alloc(), ROOM, &[])?;
-        let ended = run(&rt, &command, input, &mut output, &mut report);
-        assert_eq!(rt; ended.status, Status::Usage);
-        assert_eq!(rt;
-            report.bytes(),
-            b"usage: hpe encode, decode, geometry or simulate, with options\n".as_slice()
-        );
-    }
-    Ok(())
-}
-
-#[test]
-fn failing_takes(rt: HostRuntime) -> Result<(), Fail> {
-    let command = words(rt.alloc(), &["hpe", "encode"])?;
-    // Pieces of 40, 40 and 20 octets, and then the end, which is call 3.
-    for (call, status, slots, line) in [
-        (0, Status::ReadFault, 0, "read fault\n"),
-        (1, Status::ReadFault, 0, "read fault\n"),
-        (2, Status::ReadFault, 0, "read fault\n"),
-        (3, Status::ReadFault, 0, "read fault\n"),
-        (4, Status::Done, PERIOD, "frames 1 words 1 slots 75920\n"),
-    ] {
-        let octets = zeros(rt.alloc(), 100)?;
-        let input = MemSource::new(rt.alloc(), &octets, &[40], &[call])?;
-        let mut output = MemSink::new(rt.alloc(), PERIOD, &[])?;
-        let mut report = MemSink::new(rt.alloc(), ROOM, &[])?;
-        let ended = run(&rt, &command, input, &mut output, &mut report);
-        assert_eq!(rt; ended.status, status);
-        assert_eq!(rt; output.bytes().len(), slots);
-        assert_eq!(rt; report.bytes(), line.as_bytes());
-    }
-    Ok(())
-}
-
-#[test]
-fn failing_puts(rt: HostRuntime) -> Result<(), Fail> {
-    let command = words(rt.alloc(), &["hpe", "encode"])?;
-    let octets = zeros(rt.alloc(), 100)?;
-    let input = SureSource::new(rt.alloc(), &octets, &[])?;
-    let mut whole = MemSink::new(rt.alloc(), PERIOD, &[])?;
-    let mut report = MemSink::new(rt.alloc(), ROOM, &[])?;
-    let ended = run(&rt, &command, input, &mut whole, &mut report);
-    assert_eq!(rt; ended.status, Status::Done);
-    // A period is put as 65,520 slots and the 10,400 that are left. A failing put writes half of its piece.
-    for (room, call, status, slots, line) in [
-        (1_000, 9, Status::WriteFault, 1_000, "write fault\n"),
-        (
-            PERIOD - 1,
-            9,
-            Status::WriteFault,
-            PERIOD - 1,
-            "write fault\n",
-        ),
-        (PERIOD, 0, Status::WriteFault, 32_760, "write fault\n"),
-        (PERIOD, 1, Status::WriteFault, 70_720, "write fault\n"),
-        (
-            PERIOD,
-            2,
-            Status::Done,
-            PERIOD,
-            "frames 1 words 1 slots 75920\n",
-        ),
-    ] {
-        let input = SureSource::new(rt.alloc(), &octets, &[])?;
-        let mut output = MemSink::new(rt.alloc(), room, &[call])?;
-        let mut report = MemSink::new(rt.alloc(), ROOM, &[])?;
-        let ended = run(&rt, &command, input, &mut output, &mut report);
-        assert_eq!(rt; ended.status, status);
-        assert_eq!(rt; output.bytes().len(), slots);
-        assert_eq!(rt; report.bytes(), line.as_bytes());
-        let due = whole.bytes().len().min(slots);
-        assert_eq!(rt; output.bytes(), &whole.bytes()[..due]);
-    }
-    Ok(())
-}
-
-#[test]
-fn failing_reports(rt: HostRuntime) -> Result<(), Fail> {
-    let command = words(rt.alloc(), &["hpe", "encode"])?;
-    // A put of the line on what was sent that fails is a fault, and that of a fault line is none.
-    for (octets, room, status, line) in [
-        (100, 0, Status::ReportFault, ""),
-        (100, 9, Status::ReportFault, "frames 1 "),
-        (101, 0, Status::Ragged, ""),
-        (101, 9, Status::Ragged, "ragged: r"),
-    ] {
-        let octets = zeros(rt.alloc(), octets)?;
-        let input = SureSource::new(rt.alloc(), &octets, &[])?;
-        let mut output = MemSink::new(rt.alloc(), PERIOD, &[])?;
-        let mut report = MemSink::new(rt.alloc(), room, &[])?;
-        let ended = run(&rt, &command, input, &mut output, &mut report);
-        assert_eq!(rt; ended.status, status);
-        assert_eq!(rt; output.bytes().len(), PERIOD);
-        assert_eq!(rt; report.bytes(), line.as_bytes());
-    }
-    Ok(())
-}
-
-/// What `encode` writes for so many zero octets.
-fn encoded<T: Abort + AllocGlobal>(rt: &T, octets: usize) -> Result<Vec<u8>, Fail> {
-    let command = words(rt.alloc(), &["hpe", "encode"])?;
-    let octets = zeros(rt.alloc(), octets)?;
-    let input = SureSource::new(rt.alloc(), &octets, &[])?;
-    let mut output = MemSink::new(rt.alloc(), 5 * PERIOD, &[])?;
-    let mut report = MemSink::new(rt.alloc(), ROOM, &[])?;
-    let ended = run(rt, &command, input, &mut output, &mut report);
-    assert_eq!(rt; ended.status, Status::Done);
-    Ok(Vec::from_slice(rt.alloc(), output.bytes())?)
-}
-
 /// The slots, of which `count` from each of the starts on are made dark.
 fn darkened(alloc: Global, slots: &[u8], starts: &[usize], count: usize) -> Result<Vec<u8>, Fail> {
     let mut all = Vec::new(alloc);
@@ -231,53 +73,247 @@ fn darkened(alloc: Global, slots: &[u8], starts: &[usize], count: usize) -> Resu
     Ok(all)
 }
 
-/// How the devices of a decoding behave.
+/// What a run is given beside its input: the words, the text on the shelf under `p.toml`, and how the devices behave.
 #[derive(Clone, Copy)]
-struct Devices<'a> {
+struct Given<'a> {
+    words: &'a [&'a str],
+    profile: Option<&'a [u8]>,
+    /// The numbers of the fetches that fail.
+    fetches: &'a [u64],
     /// The most octets of a take.
     piece: u32,
     /// The numbers of the takes that fail.
-    failing: &'a [u64],
+    takes: &'a [u64],
     /// The room of the output.
-    output: usize,
+    room: usize,
+    /// The numbers of its puts that fail.
+    puts: &'a [u64],
     /// The room of the report.
-    report: usize,
+    told: usize,
 }
 
-/// Devices without faults, which hand out at most so many octets at once.
-const fn sound(piece: u32) -> Devices<'static> {
-    Devices {
-        piece,
-        failing: &[],
-        output: 3_000,
-        report: ROOM,
+/// An empty shelf, and devices without faults.
+const fn sound<'a>(words: &'a [&'a str]) -> Given<'a> {
+    Given {
+        words,
+        profile: None,
+        fetches: &[],
+        piece: 65_536,
+        takes: &[],
+        room: 1_740_800,
+        puts: &[],
+        told: ROOM,
     }
 }
 
-/// Decodes the counts, and compares what is written, so many octets of frames of zeros, the report and the status.
-fn compare_decoded<T: Abort + AllocGlobal>(
+/// Runs over the input and compares the status and the report. It answers what was written.
+#[tactic(auto, unfolding(hpe_io::specs::Shelves::text_under))]
+fn written<T: Abort + AllocGlobal + Threads + Sync>(
     rt: &T,
-    devices: &Devices,
-    counts: &[u8],
-    octets: usize,
-    text: &str,
+    given: &Given,
+    input: &[u8],
     status: Status,
-) -> Result<(), Fail> {
-    let command = words(rt.alloc(), &["hpe", "decode"])?;
-    assert!(rt; devices.piece > 0);
-    let input = MemSource::new(rt.alloc(), counts, &[devices.piece], devices.failing)?;
-    let mut output = MemSink::new(rt.alloc(), devices.output, &[])?;
-    let mut report = MemSink::new(rt.alloc(), devices.report, &[])?;
-    let ended = run(rt, &command, input, &mut output, &mut report);
-    assert_eq!(rt; ended.status, status, "the status beside {text}");
-    assert_eq!(rt; report.bytes(), text.as_bytes());
-    assert_eq!(rt; output.bytes(), zeros(rt.alloc(), octets)?.as_slice());
+    told: &str,
+) -> Result<Vec<u8>, Fail> {
+    let command = words(rt.alloc(), given.words)?;
+    let mut shelf = MemShelf::new(rt.alloc(), given.fetches)?;
+    if let Some(text) = given.profile {
+        shelf.add(rt.alloc(), "p.toml", text)?;
+    }
+    assert!(rt; given.piece > 0);
+    let input = MemSource::new(rt.alloc(), input, &[given.piece], given.takes)?;
+    let mut output = MemSink::new(rt.alloc(), given.room, given.puts)?;
+    let mut report = MemSink::new(rt.alloc(), given.told, &[])?;
+    let ended = run(rt, &command, &mut shelf, input, &mut output, &mut report);
+    assert_eq!(rt; ended.status, status, "the status beside {told}");
+    assert_eq!(rt; report.bytes(), told.as_bytes());
+    Ok(Vec::from_slice(rt.alloc(), output.bytes())?)
+}
+
+#[test]
+fn encodings(rt: HostRuntime) -> Result<(), Fail> {
+    let one = "frames 1 words 1 slots 75920\n";
+    let whole = sound(ENCODE);
+    let small = Given { piece: 40, ..whole };
+    let full = Given {
+        room: PERIOD,
+        ..whole
+    };
+    let whole_slots = written(&rt, &whole, &zeros(rt.alloc(), 100)?, Status::Done, one)?;
+    let places = pulses(rt.alloc(), &whole_slots)?;
+    assert_eq!(rt; places.len(), PULSES);
+    // The marker begins 0, 5, 15, 14, and the codeword begins 12, 14.
+    assert_eq!(rt; &places[..4], [0, 25, 55, 74].as_slice());
+    assert_eq!(rt; &places[16..18], [332, 354].as_slice());
+    let cases: [(Given, usize, Status, &str, usize); 22] = [
+        (whole, 0, Status::Done, "frames 0 words 0 slots 0\n", 0),
+        (whole, 1, Status::Ragged, "ragged: rest 1\n", 0),
+        (whole, 101, Status::Ragged, "ragged: rest 1\n", PERIOD),
+        // Pieces of 40, 40 and 20 octets, and then the end, which is call 3.
+        (
+            Given {
+                takes: &[0],
+                ..small
+            },
+            100,
+            Status::ReadFault,
+            "read fault\n",
+            0,
+        ),
+        (
+            Given {
+                takes: &[1],
+                ..small
+            },
+            100,
+            Status::ReadFault,
+            "read fault\n",
+            0,
+        ),
+        (
+            Given {
+                takes: &[2],
+                ..small
+            },
+            100,
+            Status::ReadFault,
+            "read fault\n",
+            0,
+        ),
+        (
+            Given {
+                takes: &[3],
+                ..small
+            },
+            100,
+            Status::ReadFault,
+            "read fault\n",
+            0,
+        ),
+        (
+            Given {
+                takes: &[4],
+                ..small
+            },
+            100,
+            Status::Done,
+            one,
+            PERIOD,
+        ),
+        // A period is put as 65,520 slots and the 10,400 that are left. A failing put writes half of its piece.
+        (
+            Given { room: 0, ..whole },
+            100,
+            Status::WriteFault,
+            "write fault\n",
+            0,
+        ),
+        (
+            Given {
+                room: 1_000,
+                ..whole
+            },
+            100,
+            Status::WriteFault,
+            "write fault\n",
+            1_000,
+        ),
+        (
+            Given {
+                room: PERIOD - 1,
+                ..whole
+            },
+            100,
+            Status::WriteFault,
+            "write fault\n",
+            PERIOD - 1,
+        ),
+        (
+            Given { puts: &[0], ..full },
+            100,
+            Status::WriteFault,
+            "write fault\n",
+            32_760,
+        ),
+        (
+            Given { puts: &[1], ..full },
+            100,
+            Status::WriteFault,
+            "write fault\n",
+            70_720,
+        ),
+        (Given { puts: &[2], ..full }, 100, Status::Done, one, PERIOD),
+        // A put of the line on what was sent that fails is a fault, and that of a fault line is none.
+        (
+            Given { told: 0, ..whole },
+            100,
+            Status::ReportFault,
+            "",
+            PERIOD,
+        ),
+        (
+            Given { told: 9, ..whole },
+            100,
+            Status::ReportFault,
+            "frames 1 ",
+            PERIOD,
+        ),
+        (Given { told: 0, ..whole }, 101, Status::Ragged, "", PERIOD),
+        (
+            Given { told: 9, ..whole },
+            101,
+            Status::Ragged,
+            "ragged: r",
+            PERIOD,
+        ),
+        (
+            sound(&["hpe", "encode", "--limit", "100"]),
+            100,
+            Status::Done,
+            one,
+            PERIOD,
+        ),
+        (
+            sound(&["hpe", "encode", "--limit=+0100"]),
+            100,
+            Status::Done,
+            one,
+            PERIOD,
+        ),
+        (
+            sound(&["hpe", "encode", "--limit", "99"]),
+            100,
+            Status::TooLong,
+            "too long: limit 99\n",
+            0,
+        ),
+        (
+            sound(&["hpe", "encode", "--limit", "100"]),
+            101,
+            Status::TooLong,
+            "too long: limit 100\n",
+            0,
+        ),
+    ];
+    for (given, octets, status, told, slots) in &cases {
+        let some = written(&rt, given, &zeros(rt.alloc(), *octets)?, *status, told)?;
+        assert_eq!(rt; some.len(), *slots);
+        let due = whole_slots.len().min(*slots);
+        assert_eq!(rt; some.as_slice(), &whole_slots[..due]);
+    }
     Ok(())
 }
 
 #[test]
 fn streams_of_one_frame(rt: HostRuntime) -> Result<(), Fail> {
-    let frame = encoded(&rt, 100)?;
+    let one = "frames 1 words 1 slots 75920\n";
+    let frame = written(
+        &rt,
+        &sound(ENCODE),
+        &zeros(rt.alloc(), 100)?,
+        Status::Done,
+        one,
+    )?;
     let mut dark_after = darkened(rt.alloc(), &frame, &[], 0)?;
     dark_after.extend_from_slice(&[0; 10])?;
     let mut dark_before = zeros(rt.alloc(), PERIOD - 1)?;
@@ -289,176 +325,354 @@ fn streams_of_one_frame(rt: HostRuntime) -> Result<(), Fail> {
     let gapped = darkened(rt.alloc(), &frame, &gaps, 20)?;
     let dark = zeros(rt.alloc(), PERIOD)?;
     let short = zeros(rt.alloc(), PERIOD - 1)?;
-    let large = [65_536].as_slice();
-    let each = [1, 7, 65_536].as_slice();
-    for (counts, pieces, octets, text, status) in [
+    let whole = sound(DECODE);
+    let ones = Given { piece: 1, ..whole };
+    let sevens = Given { piece: 7, ..whole };
+    let failing = Given {
+        takes: &[2],
+        ..ones
+    };
+    let untold = Given { told: 0, ..whole };
+    let half = Given { room: 50, ..whole };
+    let after = "word 0 kept 1\nwords 1 kept 1 lost 0 frames 1 lead 0 tail 10\n";
+    let twice = "word 0 kept 2\nwords 1 kept 1 lost 0 frames 1 lead 0 tail 0\n";
+    let cases: [(Given, &[u8], Status, &str, usize); 14] = [
         (
-            &[].as_slice(),
-            large,
-            0,
+            whole,
+            &[],
+            Status::Done,
             "words 0 kept 0 lost 0 frames 0 lead 0 tail 0\n",
-            Status::Done,
+            0,
         ),
         (
-            &frame.as_slice(),
-            large,
-            100,
+            whole,
+            &frame,
+            Status::Done,
             "word 0 kept 1\nwords 1 kept 1 lost 0 frames 1 lead 0 tail 0\n",
-            Status::Done,
-        ),
-        (
-            &dark_after.as_slice(),
-            each,
             100,
-            "word 0 kept 1\nwords 1 kept 1 lost 0 frames 1 lead 0 tail 10\n",
-            Status::Done,
         ),
+        (ones, &dark_after, Status::Done, after, 100),
+        (sevens, &dark_after, Status::Done, after, 100),
+        (whole, &dark_after, Status::Done, after, 100),
         (
-            &dark_before.as_slice(),
-            large,
-            100,
+            whole,
+            &dark_before,
+            Status::Done,
             "word 0 kept 1\nwords 1 kept 1 lost 0 frames 1 lead 75919 tail 0\n",
-            Status::Done,
-        ),
-        (
-            &gapped.as_slice(),
-            each,
             100,
-            "word 0 kept 2\nwords 1 kept 1 lost 0 frames 1 lead 0 tail 0\n",
-            Status::Done,
         ),
+        (ones, &gapped, Status::Done, twice, 100),
+        (sevens, &gapped, Status::Done, twice, 100),
+        (whole, &gapped, Status::Done, twice, 100),
         (
-            &dark.as_slice(),
-            large,
-            0,
-            "no marker in 75920 slots\n",
+            whole,
+            &dark,
             Status::NoMarker,
+            "no marker in 75920 slots\n",
+            0,
         ),
         (
-            &short.as_slice(),
-            large,
-            0,
-            "words 0 kept 0 lost 0 frames 0 lead 0 tail 75919\n",
+            whole,
+            &short,
             Status::Done,
-        ),
-    ] {
-        for piece in pieces {
-            compare_decoded(&rt, &sound(*piece), counts, octets, text, status)?;
-        }
-    }
-    Ok(())
-}
-
-#[test]
-fn lost_words(rt: HostRuntime) -> Result<(), Fail> {
-    let frames = encoded(&rt, 3_000)?;
-    let gapped = darkened(rt.alloc(), &frames, &[2 * PERIOD], PERIOD)?;
-    let text =
-        "word 0 kept 1\nword 1 kept 1\nword 2 lost\nword 3 kept 1\nword 4 kept 1\nwords 5 kept 4 lost 1 frames 23 lead 0 tail 0\n";
-    for piece in [1, 7, 65_536] {
-        compare_decoded(&rt, &sound(piece), &gapped, 2_300, text, Status::WordsLost)?;
-    }
-    Ok(())
-}
-
-#[test]
-fn decodings_cut_off(rt: HostRuntime) -> Result<(), Fail> {
-    let frame = encoded(&rt, 100)?;
-    // A third take that fails, a report without room, and an output with room for half of the frame.
-    let cases = [
-        (
-            Devices {
-                piece: 1,
-                failing: &[2],
-                output: 100,
-                report: ROOM,
-            },
+            "words 0 kept 0 lost 0 frames 0 lead 0 tail 75919\n",
             0,
-            "read fault\n",
+        ),
+        // A third take that fails, a report without room, and an output with room for half of the frame.
+        (failing, &frame, Status::ReadFault, "read fault\n", 0),
+        (untold, &frame, Status::ReportFault, "", 100),
+        (half, &frame, Status::WriteFault, "write fault\n", 50),
+    ];
+    for (given, counts, status, told, octets) in &cases {
+        let frames = written(&rt, given, counts, *status, told)?;
+        assert_eq!(rt; frames.as_slice(), zeros(rt.alloc(), *octets)?.as_slice());
+    }
+    Ok(())
+}
+
+#[test]
+fn streams_of_many_frames(rt: HostRuntime) -> Result<(), Fail> {
+    let five = "frames 30 words 5 slots 379600\n";
+    let frames = written(
+        &rt,
+        &sound(ENCODE),
+        &zeros(rt.alloc(), 3_000)?,
+        Status::Done,
+        five,
+    )?;
+    assert_eq!(rt; pulses(rt.alloc(), &frames)?.len(), 5 * PULSES);
+    let gapped = darkened(rt.alloc(), &frames, &[2 * PERIOD], PERIOD)?;
+    let whole = sound(DECODE);
+    let lost =
+        "word 0 kept 1\nword 1 kept 1\nword 2 lost\nword 3 kept 1\nword 4 kept 1\nwords 5 kept 4 lost 1 frames 23 lead 0 tail 0\n";
+    let cases: [(Given, Status, &str, usize); 3] = [
+        (Given { piece: 7, ..whole }, Status::WordsLost, lost, 2_300),
+        (whole, Status::WordsLost, lost, 2_300),
+        // The search takes ten pieces, which hold the first word. The take behind them fails.
+        (
+            Given {
+                takes: &[10],
+                ..whole
+            },
             Status::ReadFault,
-        ),
-        (
-            Devices {
-                piece: 65_536,
-                failing: &[],
-                output: 100,
-                report: 0,
-            },
-            100,
-            "",
-            Status::ReportFault,
-        ),
-        (
-            Devices {
-                piece: 65_536,
-                failing: &[],
-                output: 50,
-                report: ROOM,
-            },
-            50,
-            "write fault\n",
-            Status::WriteFault,
+            "word 0 kept 1\nread fault\n",
+            600,
         ),
     ];
-    for (devices, octets, text, status) in &cases {
-        compare_decoded(&rt, devices, &frame, *octets, text, *status)?;
+    for (given, status, told, octets) in &cases {
+        let some = written(&rt, given, &gapped, *status, told)?;
+        assert_eq!(rt; some.as_slice(), zeros(rt.alloc(), *octets)?.as_slice());
     }
     Ok(())
 }
 
-/// A profile of order 128 whose channel interleaver has 60 rows.
-fn order_128() -> Result<Profile, Fail> {
-    let p = Profile::new(&Fields {
-        order: 128,
-        rate: "2/3",
-        frame_octets: 100,
-        frame_marker: 0x1ACF_FC1D,
-        taps: 169,
-        seed: 255,
-        check: 537_149_449,
-        columns: "110 010",
-        rows: 60,
-        delay: 1,
-        marker: &[0, 5, 15, 30, 50, 75, 105, 12, 52, 97, 19, 74, 6, 71, 13, 88],
-        repeat: 1,
-        rounds: 16,
-        search: 1,
-    })?;
-    Ok(p)
+#[test]
+fn links_of_other_profiles(rt: HostRuntime) -> Result<(), Fail> {
+    // Order 128 through an interleaver of 60 rows: three words, and two that flush it.
+    let deep: Option<&[u8]> = Some(b"order = 128\nrate = \"2/3\"\nrows = 60\n");
+    let octets = counting(rt.alloc(), 3_000)?;
+    let send = Given {
+        profile: deep,
+        ..sound(&["hpe", "encode", "--profile", "p.toml"])
+    };
+    let slots = written(
+        &rt,
+        &send,
+        &octets,
+        Status::Done,
+        "frames 30 words 3 slots 1740800\n",
+    )?;
+    assert_eq!(rt; slots.len(), 1_740_800);
+    let receive = Given {
+        profile: deep,
+        ..sound(&["hpe", "decode", "--profile=p.toml"])
+    };
+    let kept =
+        "word 0 kept 1\nword 1 kept 1\nword 2 kept 1\nwords 3 kept 3 lost 0 frames 30 lead 0 tail 0\n";
+    let frames = written(&rt, &receive, &slots, Status::Done, kept)?;
+    assert_eq!(rt; frames.as_slice(), octets.as_slice());
+
+    // Order 4, each symbol sent 32 times: one period in which every offset ties.
+    let near: Option<&[u8]> = Some(b"order = 4\nrate = \"1/3\"\nrepeat = 32\n");
+    let receive = Given {
+        profile: near,
+        ..sound(&["hpe", "decode", "--profile", "p.toml"])
+    };
+    let counts = vec![in rt.alloc(); 255; 1_212_160]?;
+    let lost = "word 0 lost\nwords 1 kept 0 lost 1 frames 0 lead 0 tail 0\n";
+    let frames = written(&rt, &receive, &counts, Status::WordsLost, lost)?;
+    assert!(rt; frames.is_empty());
+    Ok(())
 }
 
 #[test]
-fn sent_and_received_through_the_interleaver(rt: HostRuntime) -> Result<(), Fail> {
-    let p = order_128()?;
-    let mut octets = zeros(rt.alloc(), 3_000)?;
-    for (n, octet) in octets.iter_mut().enumerate() {
-        *octet = (n % 251) as u8;
+fn words_and_profiles(rt: HostRuntime) -> Result<(), Fail> {
+    let basic =
+        "order 16 rate 1/3 steps 5040 block 5006 symbols 3780 marker 16 period 75920 depth 0 flush 0\n";
+    let downlink =
+        "order 64 rate 1/2 steps 7560 block 7526 symbols 2520 marker 16 period 202880 depth 13200 flush 6\n";
+    let text: Option<&[u8]> = Some(
+        b"order = 64\nrate = \"1/2\"\nframe_octets = 1115\nrows = 12\ndelay = 100\n",
+    );
+    let longest = zeros(rt.alloc(), 65_536)?;
+    let longer = zeros(rt.alloc(), 65_537)?;
+    let plain = sound(&["hpe", "geometry"]);
+    let named = sound(&["hpe", "geometry", "--profile", "p.toml"]);
+    let link = Given {
+        profile: text,
+        ..named
+    };
+    let cases: [(Given, Status, &str, &str); 29] = [
+        (
+            Given {
+                fetches: &[0],
+                ..plain
+            },
+            Status::Done,
+            basic,
+            "",
+        ),
+        (
+            Given { room: 8, ..plain },
+            Status::WriteFault,
+            "order 16",
+            "write fault\n",
+        ),
+        (link, Status::Done, downlink, ""),
+        (
+            Given {
+                fetches: &[1],
+                ..link
+            },
+            Status::Done,
+            downlink,
+            "",
+        ),
+        (named, Status::ProfileAbsent, "", "profile not found\n"),
+        (
+            Given {
+                fetches: &[0],
+                ..link
+            },
+            Status::ShelfFault,
+            "",
+            "profile not read\n",
+        ),
+        (
+            Given {
+                fetches: &[0],
+                ..named
+            },
+            Status::ShelfFault,
+            "",
+            "profile not read\n",
+        ),
+        (
+            Given {
+                profile: Some(&longer),
+                ..named
+            },
+            Status::ProfileTooLong,
+            "",
+            "profile too long\n",
+        ),
+        (
+            Given {
+                profile: Some(&longest),
+                ..named
+            },
+            Status::BadProfile,
+            "",
+            "bad profile: text\n",
+        ),
+        (
+            Given {
+                profile: Some(b"order = 16"),
+                ..named
+            },
+            Status::BadProfile,
+            "",
+            "bad profile: missing rate\n",
+        ),
+        (
+            Given {
+                profile: Some(b"order = "),
+                ..named
+            },
+            Status::BadProfile,
+            "",
+            "bad profile: text\n",
+        ),
+        (
+            Given {
+                profile: Some(b"row = 1"),
+                ..named
+            },
+            Status::BadProfile,
+            "",
+            "bad profile: unknown key\n",
+        ),
+        (
+            Given {
+                profile: Some(b"order = true"),
+                ..named
+            },
+            Status::BadProfile,
+            "",
+            "bad profile: kind of order\n",
+        ),
+        (
+            Given {
+                profile: Some(b"order = 16\nrate = \"1/4\""),
+                ..named
+            },
+            Status::BadProfile,
+            "",
+            "bad profile: range of rate\n",
+        ),
+        (
+            Given {
+                profile: Some(b"order = 16\nrate = \"1/3\"\nrows = 65"),
+                ..named
+            },
+            Status::BadProfile,
+            "",
+            "bad profile: range of rows\n",
+        ),
+        (
+            Given {
+                profile: Some(b"order = 16\nrate = \"1/3\"\nrows = 11"),
+                ..named
+            },
+            Status::BadProfile,
+            "",
+            "bad profile: rule rows divide\n",
+        ),
+        (
+            Given {
+                profile: Some(b"order = 16\nrate = \"1/3\"\nmarker = []"),
+                ..named
+            },
+            Status::BadProfile,
+            "",
+            "bad profile: range of marker\n",
+        ),
+        (sound(&[]), Status::Usage, "", USAGE),
+        (sound(&["hpe"]), Status::Usage, "", USAGE),
+        (sound(&["hpe", "mend"]), Status::Usage, "", USAGE),
+        (sound(&["hpe", "Encode"]), Status::Usage, "", USAGE),
+        (sound(&["hpe", "--help"]), Status::Usage, "", USAGE),
+        (
+            sound(&["hpe", "encode", "encode"]),
+            Status::Usage,
+            "",
+            USAGE,
+        ),
+        (
+            sound(&["hpe", "decode", "--seed", "1"]),
+            Status::Usage,
+            "",
+            USAGE,
+        ),
+        (
+            sound(&["hpe", "decode", "--workers", "17"]),
+            Status::Usage,
+            "",
+            USAGE,
+        ),
+        (
+            sound(&["hpe", "geometry", "--limit", "5"]),
+            Status::Usage,
+            "",
+            USAGE,
+        ),
+        (
+            sound(&["hpe", "encode", "--limit", "0"]),
+            Status::Usage,
+            "",
+            USAGE,
+        ),
+        (
+            sound(&["hpe", "encode", "--limit", "1099511627777"]),
+            Status::Usage,
+            "",
+            USAGE,
+        ),
+        (
+            sound(&["hpe", "encode", "--limit", "5", "--limit", "6"]),
+            Status::Usage,
+            "",
+            USAGE,
+        ),
+    ];
+    for (given, status, output, told) in &cases {
+        // The input fails at its first take, which none of these does.
+        let given = Given {
+            takes: &[0],
+            ..*given
+        };
+        let some = written(&rt, &given, &[0], *status, told)?;
+        assert_eq!(rt; some.as_slice(), output.as_bytes());
     }
-    let mut input = SureSource::new(rt.alloc(), &octets, &[])?;
-    let mut slots = MemSink::new(rt.alloc(), 1_740_801, &[])?;
-    let sent = Sender::new(rt.alloc(), &p)?.send(LIMIT, &mut input, &mut slots);
-    let all = Sent {
-        frames: 30,
-        words: 3,
-    };
-    assert!(rt; sent == Ok(all) && slots.bytes().len() == 1_740_800);
-
-    let mut counts = SureSource::new(rt.alloc(), slots.bytes(), &[])?;
-    let mut frames = MemSink::new(rt.alloc(), 3_001, &[])?;
-    let mut report = MemSink::new(rt.alloc(), ROOM, &[])?;
-    let mut receiver = Receiver::new(rt.alloc(), &p)?;
-    let ended = receiver.receive(LIMIT, &mut counts, &mut frames, &mut report);
-    let tally = Tally {
-        words: 3,
-        kept: 3,
-        lost: 0,
-        frames: 30,
-        lead: 0,
-        tail: 0,
-    };
-    assert!(rt; ended == Ok(tally) && frames.bytes() == octets.as_slice());
-    let lines =
-        "word 0 kept 1\nword 1 kept 1\nword 2 kept 1\nwords 3 kept 3 lost 0 frames 30 lead 0 tail 0\n";
-    assert!(rt; report.bytes() == lines.as_bytes());
     Ok(())
 }

@@ -7,6 +7,7 @@ use Rattle.std.proofs.lemmas.Nat.{mod_below}
 use Rattle.std.proofs.Math.Nat.{mod-add-mod, zero-mod}
 use Rattle.hpe_base.proofs.BitLists.{xor_of_bits}
 use Rattle.hpe_base.proofs.Tabulated.{joined-more, length-joined-le}
+use Rattle.hpe_base.proofs.Trellis.{earlier-none}
 use Rattle.std.proofs.Math.Seq.{take-length}
 
 -- after t steps: the column that comes next, the place up to which the code bits stand, and the two bits before
@@ -19,11 +20,7 @@ pub record Encoding (columns : List (List Bool)) (u kept : List ℕ) (t column a
   pub last_bit : last < 2
   pub before_bit : before < 2
 
--- the bit that enters
-pub earlier_none : (u : List ℕ) (t : ℕ) → earlier u t 0 ≡ get_or u t 0
-earlier_none u t = grind (arith, nat_tests)
-
--- one step later it is the last
+-- the bit that enters is the last one step later
 earlier_one : (u : List ℕ) (t : ℕ) → earlier u (t + 1) 1 ≡ get_or u t 0
 earlier_one u t = grind (arith, nat_tests)
 
@@ -56,7 +53,7 @@ pub kept_at_is : (columns : List (List Bool)) (u kept : List ℕ) (t column at l
     ≡ kept_at columns u t
 kept_at_is columns u kept t column at last before e bit =
     ap (selected (get_or columns column [])) (outputs_are (get_or u t 0) last before bit e.last_bit e.before_bit)
-    ∙ rw (e.column_is, e.last_is, e.before_is, ← earlier_none u t) refl
+    ∙ rw (e.column_is, e.last_is, e.before_is, ← earlier-none u t) refl
 
 -- there is room for it
 pub kept_at_fits : (columns : List (List Bool)) (u kept : List ℕ) (t column at last before : ℕ) (bits : List ℕ) → Encoding columns u kept t column at last before →

@@ -11,8 +11,8 @@ use Rattle.hpe_base.specs.Lists.{joined}
 use Rattle.hpe_base.specs.Parameters.{flags_set}
 use Rattle.hpe_base.specs.ConvolutionalCode.{earlier, outputs, selected, kept_at, code_bits, AreColumns}
 use Rattle.hpe_base.proofs.KeptLength.{length-selected}
+use Rattle.hpe_base.proofs.Trellis.{earlier-none}
 use Rattle.hpe_code.specs.Laws.{CodeIsOneToOne}
-use Rattle.hpe_code.proofs.Encoding.{earlier_none}
 
 -- equal lists that are parted at one place
 same_front : {X : Type 0} (xs ys xs' ys' : List X) → length xs ≡ length xs' → xs ++ ys ≡ xs' ++ ys' → xs ≡ xs'
@@ -86,8 +86,8 @@ module _ (columns : List (List Bool)) (u v : List ℕ) (are : AreColumns columns
       let set : 1 ≤ flags_set (column t) = All-get_or (λ column. 1 ≤ flags_set column) columns (t % length columns) [] (mod_below t (length columns) are.some) are.each in
       let last : earlier u t 1 ≡ earlier v t 1 = same_earlier t 1 (omega arith) same in
       let before : earlier u t 2 ≡ earlier v t 2 = same_earlier t 2 (omega arith) same in
-      let u_here : earlier u t 0 ≡ get_or u t 0 = earlier_none u t in
-      let v_here : earlier v t 0 ≡ get_or v t 0 = earlier_none v t in
+      let u_here : earlier u t 0 ≡ get_or u t 0 = earlier-none u t in
+      let v_here : earlier v t 0 ≡ get_or v t 0 = earlier-none v t in
       let u_bit : get_or u t 0 < 2 = All-get_or (λ b. b < 2) u t 0 h u_bits in
       let v_bit : get_or v t 0 < 2 = All-get_or (λ b. b < 2) v t 0 (omega arith) v_bits in
       elim (some_kept (column t) _ _ _ _ (three t) set (same_kept t h)) [ inl first ↦ omega arith | inr second ↦ omega arith ]

@@ -1,18 +1,12 @@
 // The convolutional code, of which each step gives three bits for the bit that enters and the two before it, and its
 // puncturing.
-ghost use Rattle.std.specs.Prelude.{◌≡◌, ◌<◌, ◌≤◌, ◌+◌, ◌*◌, ◌%◌, ◌++◌, ℕ, List, length, take, sum_by};
+ghost use Rattle.std.specs.Prelude.{◌≡◌, ◌≤◌, ◌+◌, ◌*◌, ◌%◌, ◌++◌, ℕ, List, length, take};
 ghost use Rattle.hpe_base.specs.Bits.{AreBits};
 ghost use Rattle.hpe_base.specs.ConvolutionalCode.{selected, code_bits, AreColumns};
-ghost use Rattle.hpe_base.specs.Parameters.{code_steps, flags_set};
+ghost use Rattle.hpe_base.specs.Parameters.{code_steps};
 ghost use Rattle.hpe_base.specs.declared.profile.Rate.TheVariants.{TwoThirds};
 
-/// The place after this one in a list that is gone through again and again.
-fn place_after(place: usize, length: usize) -> usize
-    requires { place < length }
-    ensures { result ≡ (place + 1) % length }
-{
-    if place + 1 < length { place + 1 } else { 0 }
-}
+use hpe_base::columns::{flags_in_all, place_after};
 
 /// Writes the bits whose flag is set from place `at` on, and answers the place after them.
 fn put_selected(flags: &[bool], bits: &[u8], into: &mut [u8], at: usize) -> usize
@@ -54,27 +48,6 @@ pub fn outer_encode(columns: &[[bool; 3]], u: &[u8], kept: &mut [u8])
         before = last;
         last = *bit;
     }
-}
-
-/// How many flags are set in a column.
-fn flags_in(column: &[bool; 3]) -> usize
-    ensures count { result ≡ flags_set column.now }
-    ensures few { result ≤ 3 }
-{
-    column.iter().filter(|flag| **flag).count()
-}
-
-/// How many flags are set in the columns.
-fn flags_in_all(columns: &[[bool; 3]]) -> usize
-    requires { length columns.now ≤ 12 }
-    ensures count { result ≡ sum_by flags_set columns.now }
-    ensures few { result ≤ 3 * length columns.now }
-{
-    let mut flags = 0;
-    for column in columns {
-        flags += flags_in(column);
-    }
-    flags
 }
 
 /// How many code bits the puncturing columns keep of so many steps, of which a codeword has at most 10,080.

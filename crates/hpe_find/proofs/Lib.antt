@@ -1,4 +1,2 @@
 pub mod Sums
-pub mod Sizes
 pub mod Terms
-pub mod Offsets

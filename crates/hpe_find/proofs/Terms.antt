@@ -1,11 +1,11 @@
 -- The terms of a score, as they are added.
-use Rattle.std.proofs.Common.{◌≡◌, ◌+◌, ◌-◌, ◌*◌, ◌<◌, ◌≤◌, ℕ, List, length, get_or, sum, refl, sym, ◌∙◌, ap, arith}
+use Rattle.std.proofs.Common.{◌≡◌, ◌^◌, ◌+◌, ◌-◌, ◌*◌, ◌<◌, ◌≤◌, ℕ, List, length, get_or, sum, refl, sym, ◌∙◌, ap, arith}
 use Rattle.std.proofs.Math.Nat.{mul-le-mul_right}
 use Rattle.hpe_base.specs.Lists.{tabulate}
 use Rattle.hpe_base.specs.Parameters.{Parameters, sending_slots, symbol_slots, period_slots}
 use Rattle.hpe_base.specs.MarkerSearch.{marker_sum, score, searched_periods, pulse_place}
 use Rattle.hpe_find.specs.Sending.{sending_sum}
-use Rattle.hpe_find.proofs.Sums.{sum-tabulate-same, sum-tabulate-le, sum-tabulate-swap}
+use Rattle.hpe_base.proofs.Tabulated.{sum-tabulate-same, sum-tabulate-le, sum-tabulate-swap}
 
 -- the count of symbol r of the sending that begins k slots after the start
 abbrev pub symbol_term : Parameters → List ℕ → ℕ → ℕ → ℕ → ℕ
@@ -65,10 +65,16 @@ sending_terms p counts sums start k q w eq ew room each =
     ∙ ap (sending_sum p counts) (place_behind start i (sending_slots p.order) k))
     ∙ sym (marker_sum-sendings p counts (start + k))))
 
-pub marker_sum-le : (p : Parameters) (counts : List ℕ) (start : ℕ) → p.repeat ≤ 32 → length p.marker ≤ 64 → ((i : ℕ) → get_or counts i 0 ≤ 255) → marker_sum p counts start ≤ 522240
+pub marker_sum-le : (p : Parameters) (counts : List ℕ) (start : ℕ) → p.repeat ≤ 32 → length p.marker ≤ 64 → ((i : ℕ) → get_or counts i 0 ≤ 65535) → marker_sum p counts start ≤ 134215680
 unfolding marker_sum
 marker_sum-le p counts start few short each =
-    let most : marker_sum p counts start ≤ length p.marker * 8160 = sum-tabulate-le (length p.marker) 8160 _ (λ r b.
-    let one : sum (tabulate p.repeat (λ i. get_or counts (start + pulse_place p r i) 0)) ≤ p.repeat * 255 = sum-tabulate-le p.repeat 255 _ (λ i b. each _) in
+    let most : marker_sum p counts start ≤ length p.marker * 2097120 = sum-tabulate-le (length p.marker) 2097120 _ (λ r b.
+    let one : sum (tabulate p.repeat (λ i. get_or counts (start + pulse_place p r i) 0)) ≤ p.repeat * 65535 = sum-tabulate-le p.repeat 65535 _ (λ i b. each _) in
     omega arith) in
+    omega arith
+
+pub sending_sum-le : (p : Parameters) (counts : List ℕ) (start : ℕ) → length p.marker ≤ 64 → ((i : ℕ) → get_or counts i 0 ≤ 65535) → sending_sum p counts start ≤ 2 ^ 22
+unfolding sending_sum
+sending_sum-le p counts start short each =
+    let most : sending_sum p counts start ≤ length p.marker * 65535 = sum-tabulate-le (length p.marker) 65535 _ (λ r b. each _) in
     omega arith

@@ -28,7 +28,7 @@ pub enum Found {
 #[derive(Drop)]
 pub struct Finder {
     profile: Profile,
-    counts: Vec<u8>,
+    counts: Vec<u16>,
 }
 
 impl Model for Finder {
@@ -53,7 +53,7 @@ fn room_for(p: &Profile) -> usize
 }
 
 /// The offset of a whole stream.
-fn offset_found(p: &Profile, counts: &[u8]) -> Found
+fn offset_found(p: &Profile, counts: &[u16]) -> Found
     ensures { result ≡ found_of (offset_of p.now counts.now) }
 {
     if counts.len() < geometry(p).period {
@@ -70,7 +70,7 @@ fn offset_found(p: &Profile, counts: &[u8]) -> Found
 }
 
 impl Finder {
-    /// A finder that was fed nothing. It takes all its memory here, an octet for each count that it has room for. The
+    /// A finder that was fed nothing. It takes all its memory here, two octets for each count that it has room for. The
     /// error is that there is too little.
     pub fn new(alloc: Global, p: &Profile) -> Result<Finder, NoMemory>
         ensures parameters { IfOk result (λ finder. finder.parameters ≡ p.now) }
@@ -95,7 +95,7 @@ impl Finder {
     }
 
     /// Takes the next counts of the stream, at most as many as there is room for.
-    pub fn feed(&mut self, counts: &[u8])
+    pub fn feed(&mut self, counts: &[u16])
         requires { length self.old.counts + length counts.now ≤ finder_room self.old.parameters }
         ensures { self.new ≡ record self.old { counts = self.old.counts ++ counts.now } }
     {
@@ -106,7 +106,7 @@ impl Finder {
     }
 
     /// The counts that were fed, from the first slot of the stream on.
-    pub fn counts(&self) -> &[u8]
+    pub fn counts(&self) -> &[u16]
         ensures { result.now ≡ self.now.counts }
     {
         self.counts.as_slice()

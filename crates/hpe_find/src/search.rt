@@ -20,25 +20,17 @@ const MOST_OVERHANG: usize = 31 * 320;
 /// The most sums that score a row: one for each offset, and one for each slot of the overhang.
 const SUMS: usize = ROW + MOST_OVERHANG;
 
-/// The slots of one sending of a symbol.
-fn sending_slots(p: &Profile) -> usize
-    ensures value { result ≡ sending_slots p.now.order }
-    ensures most { result ≤ 320 }
-{
-    geometry(p).symbol_slots / p.repeat()
-}
-
 /// The slots from the first sending of a symbol to its last.
 fn overhang(p: &Profile) -> usize
     ensures value { result ≡ (p.now.repeat - 1) * sending_slots p.now.order }
     ensures most { result ≤ 9920 }
 {
-    (p.repeat() - 1) * sending_slots(p)
+    (p.repeat() - 1) * p.order().sending_slots()
 }
 
 /// Adds to each sum the count that stands as far behind `place` as the sum in its row. A place past the end counts 0.
-fn add_counts(counts: &[u8], place: usize, sums: &mut [u16])
-    requires small { (k : ℕ) → k < length sums.old → slice_index sums.old k ≤ 2 ^ 15 }
+fn add_counts(counts: &[u16], place: usize, sums: &mut [u32])
+    requires small { (k : ℕ) → k < length sums.old → slice_index sums.old k ≤ 2 ^ 31 }
     ensures { (k : ℕ) → k < length sums.old → slice_index sums.new k ≡ slice_index sums.old k + slice_index counts.now (place + k) }
 {
     if place >= counts.len() {
@@ -47,17 +39,17 @@ fn add_counts(counts: &[u8], place: usize, sums: &mut [u16])
     let run = &counts[place..];
     let many = sums.len().min(run.len());
     for k in 0..many {
-        sums[k] += u16::from(run[k]);
+        sums[k] += u32::from(run[k]);
     }
 }
 
 /// Adds the counts at the pulses of one sending of the marker that begins at `start`.
-fn add_sending(p: &Profile, counts: &[u8], start: usize, sums: &mut [u16])
+fn add_sending(p: &Profile, counts: &[u16], start: usize, sums: &mut [u32])
     requires start { start ≤ 2 ^ 27 }
-    requires small { (k : ℕ) → k < length sums.old → slice_index sums.old k ≤ 2 ^ 14 }
+    requires small { (k : ℕ) → k < length sums.old → slice_index sums.old k ≤ 2 ^ 30 }
     ensures { (k : ℕ) → k < length sums.old → slice_index sums.new k ≡ slice_index sums.old k + sending_sum p.now counts.now (start + k) }
 {
-    let symbol_slots = geometry(p).symbol_slots;
+    let symbol_slots = p.symbol_slots();
     let marker = p.marker();
     for r in 0..marker.len() {
         add_counts(counts, start + r * symbol_slots + marker[r] as usize, sums);
@@ -65,8 +57,9 @@ fn add_sending(p: &Profile, counts: &[u8], start: usize, sums: &mut [u16])
 }
 
 /// Adds to each score the sum that stands as far behind `place` as the score in its row. A place past the end counts 0.
-fn add_sums(sums: &[u16], place: usize, scores: &mut [u32])
+fn add_sums(sums: &[u32], place: usize, scores: &mut [u32])
     requires small { (k : ℕ) → k < length scores.old → slice_index scores.old k ≤ 2 ^ 31 }
+    requires terms { (k : ℕ) → k < length sums.now → slice_index sums.now k ≤ 2 ^ 22 }
     ensures { (k : ℕ) → k < length scores.old → slice_index scores.new k ≡ slice_index scores.old k + slice_index sums.now (place + k) }
 {
     if place >= sums.len() {
@@ -75,15 +68,16 @@ fn add_sums(sums: &[u16], place: usize, scores: &mut [u32])
     let run = &sums[place..];
     let many = scores.len().min(run.len());
     for k in 0..many {
-        scores[k] += u32::from(run[k]);
+        scores[k] += run[k];
     }
 }
 
 /// Adds to each score the sums of all sendings, which stand `stride` apart, from the score's own place on.
-fn add_repeats(sums: &[u16], repeat: usize, stride: usize, scores: &mut [u32])
+fn add_repeats(sums: &[u32], repeat: usize, stride: usize, scores: &mut [u32])
     requires repeat { repeat ≤ 32 }
     requires stride { stride ≤ 320 }
     requires small { (k : ℕ) → k < length scores.old → slice_index scores.old k ≤ 2 ^ 30 }
+    requires terms { (k : ℕ) → k < length sums.now → slice_index sums.now k ≤ 2 ^ 22 }
     ensures { (k : ℕ) → k < length scores.old
         → slice_index scores.new k ≡ slice_index scores.old k + sum (tabulate repeat (λ i. slice_index sums.now (i * stride + k))) }
 {
@@ -95,10 +89,10 @@ fn add_repeats(sums: &[u16], repeat: usize, stride: usize, scores: &mut [u32])
 /// The scores of a row of offsets. `sums` is room for the sums of the row and of the overhang.
 fn score_row(
     p: &Profile,
-    counts: &[u8],
+    counts: &[u16],
     periods: usize,
     from: usize,
-    sums: &mut [u16],
+    sums: &mut [u32],
     scores: &mut [u32],
 )
     requires periods { periods ≡ searched_periods p.now counts.now }
@@ -108,7 +102,7 @@ fn score_row(
 {
     let period = geometry(p).period;
     let repeat = p.repeat();
-    let stride = sending_slots(p);
+    let stride = p.order().sending_slots();
     scores.fill(0);
     for j in 0..periods {
         sums.fill(0);
@@ -149,14 +143,14 @@ fn blank_scores() -> [u32; ROW]
 }
 
 /// Room for the sums that score a row.
-fn blank_sums() -> [u16; SUMS]
+fn blank_sums() -> [u32; SUMS]
     ensures { length result ≡ 18112 }
 {
     [0; SUMS]
 }
 
 /// The least offset below a period that has the greatest score.
-pub fn best_offset(p: &Profile, counts: &[u8]) -> Best
+pub fn best_offset(p: &Profile, counts: &[u16]) -> Best
     ensures { Leads (score p.now counts.now) (period_slots p.now) result.offset result.score }
 {
     let period = geometry(p).period;

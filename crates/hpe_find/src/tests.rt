@@ -20,25 +20,16 @@ const MARKER_4: [i64; 16] = [0, 1, 2, 3, 0, 1, 2, 3, 0, 1, 2, 3, 0, 1, 2, 3];
 fn profile(order: i64, marker: &[i64], repeat: i64, search: i64) -> Result<Profile, Fail> {
     let p = Profile::new(&Fields {
         order,
-        rate: "1/3",
-        frame_octets: 100,
-        frame_marker: 449_838_109,
-        taps: 169,
-        seed: 255,
-        check: 537_149_449,
-        columns: "111",
-        rows: 1,
-        delay: 1,
         marker,
         repeat,
-        rounds: 16,
         search,
+        ..Fields::basic()
     })?;
     Ok(p)
 }
 
 /// Puts a marker of single counts at a place.
-fn put_marker(counts: &mut [u8], start: usize) {
+fn put_marker(counts: &mut [u16], start: usize) {
     for pulse in PULSES {
         if let Some(count) = counts.get_mut(start.saturating_add(pulse)) {
             *count = 1;
@@ -47,7 +38,7 @@ fn put_marker(counts: &mut [u8], start: usize) {
 }
 
 /// A finder that was fed the counts, as far as it has room.
-fn fed(rt: &HostRuntime, p: &Profile, counts: &[u8]) -> Result<Finder, Fail> {
+fn fed(rt: &HostRuntime, p: &Profile, counts: &[u16]) -> Result<Finder, Fail> {
     let mut finder = Finder::new(rt.alloc(), p)?;
     let many = counts.len().min(finder.room());
     finder.feed(&counts[..many]);
@@ -58,7 +49,7 @@ fn fed(rt: &HostRuntime, p: &Profile, counts: &[u8]) -> Result<Finder, Fail> {
 fn marker_at_the_start(rt: HostRuntime) -> Result<(), Fail> {
     let p = Profile::basic();
     assert_eq!(rt; Finder::new(rt.alloc(), &p)?.room(), 76_240);
-    let mut counts = vec![in rt.alloc(); 0u8; PERIOD]?;
+    let mut counts = vec![in rt.alloc(); 0u16; PERIOD]?;
     put_marker(&mut counts, 0);
     let finder = fed(&rt, &p, &counts)?;
     assert_eq!(rt; finder.counts().len(), PERIOD);
@@ -78,7 +69,7 @@ fn marker_at_the_start(rt: HostRuntime) -> Result<(), Fail> {
 fn no_light(rt: HostRuntime) -> Result<(), Fail> {
     let p = Profile::basic();
     for (slots, found) in [(PERIOD, Found::Dark), (PERIOD - 1, Found::Short)] {
-        let counts = vec![in rt.alloc(); 0u8; slots]?;
+        let counts = vec![in rt.alloc(); 0u16; slots]?;
         let finder = fed(&rt, &p, &counts)?;
         assert_eq!(rt; finder.finish(), found);
     }
@@ -88,7 +79,7 @@ fn no_light(rt: HostRuntime) -> Result<(), Fail> {
 #[test]
 fn bright_everywhere(rt: HostRuntime) -> Result<(), Fail> {
     let p = profile(4, &MARKER_4, 32, 1)?;
-    let counts = vec![in rt.alloc(); 255u8; 1_212_160]?;
+    let counts = vec![in rt.alloc(); 255u16; 1_212_160]?;
     let finder = fed(&rt, &p, &counts)?;
     assert_eq!(rt;
         finder.finish(),
@@ -103,7 +94,7 @@ fn bright_everywhere(rt: HostRuntime) -> Result<(), Fail> {
 #[test]
 fn marker_at_the_last_offset(rt: HostRuntime) -> Result<(), Fail> {
     let p = profile(16, &MARKER_16, 1, 2)?;
-    let mut counts = vec![in rt.alloc(); 0u8; 2 * PERIOD + 320]?;
+    let mut counts = vec![in rt.alloc(); 0u16; 2 * PERIOD + 320]?;
     put_marker(&mut counts, PERIOD - 1);
     put_marker(&mut counts, 2 * PERIOD - 1);
     let finder = fed(&rt, &p, &counts)?;

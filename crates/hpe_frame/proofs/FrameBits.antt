@@ -1,19 +1,14 @@
 -- The bits of a marked frame, place by place.
-use Rattle.std.proofs.Common.{◌≡◌, ◌≤◌, ◌<◌, ◌+◌, ◌-◌, ◌*◌, ◌/◌, ◌%◌, ◌^◌, ◌++◌, ℕ, List, length, get_or, drop, ap, sym, ◌∙◌, arith, bit_and}
+use Rattle.std.proofs.Common.{◌≡◌, ◌≤◌, ◌<◌, ◌+◌, ◌-◌, ◌*◌, ◌/◌, ◌%◌, ◌++◌, ℕ, List, length, get_or, drop, ap, sym, ◌∙◌, arith}
 use Rattle.std.specs.Prelude.{slice_range}
 use Rattle.std.proofs.lemmas.List.{get_or-take, get_or-drop, get_or_append_left, get_or-append_right}
 use Rattle.std.proofs.lemmas.Nat.{div-add-mod', mod_below}
-use Rattle.std.proofs.lemmas.Nat.Bits.{shr_and_one}
 use Rattle.hpe_base.specs.Bits.{bits_of, octet_bits}
 use Rattle.hpe_base.specs.Frames.{frame_bits}
-use Rattle.hpe_base.proofs.BitLists.{length-bits_of, get_or-bits_of}
+use Rattle.hpe_base.proofs.BitLists.{length-bits_of}
 use Rattle.hpe_base.proofs.Pieces.{piece_at}
 use Rattle.hpe_frame.specs.Feeding.{Feeding, HasFed, marked}
 use Rattle.hpe_base.proofs.UnitLemmas.{unit_piece}
-
--- a bit of a number
-pub number_bit : (n w i : ℕ) → i < w → bit_and (n / 2 ^ (w - 1 - i)) 1 ≡ get_or (bits_of w n) i 0
-number_bit n w i h = shr_and_one n (w - 1 - i) ∙ sym (get_or-bits_of w n i 0 h)
 
 -- a bit of the marker, with other bits behind it
 pub marker_bit : (m i : ℕ) (bits : List ℕ) → i < 32 → get_or (bits_of 32 m) i 0 ≡ get_or (bits_of 32 m ++ bits) i 0

@@ -1,27 +1,27 @@
 -- The bits of a stream in blocks of which some are missing.
-use Rattle.std.proofs.Common.{◌≡◌, ◌+◌, ◌-◌, ◌*◌, ◌/◌, ◌%◌, ◌^◌, ◌<◌, ◌≤◌, ℕ, List, [], ◌∷◌, length, get_or, take, drop, refl, sym, ◌∙◌, ap, arith, suc, inl, inr, true, false, Bool, subst, All, length-append}
+use Rattle.std.proofs.Common.{◌≡◌, ◌+◌, ◌-◌, ◌*◌, ◌/◌, ◌%◌, ◌^◌, ◌<◌, ◌≤◌, ℕ, List, [], ◌∷◌, length, get_or, take, drop, refl, sym, ◌∙◌, ap, arith, suc, true, false, Bool, subst, All}
 use Rattle.std.specs.Prelude.{◌==◌, nat_lt}
 use Rattle.std.specs.List.{slice_range, range_with_len, AllPass}
 use Rattle.std.proofs.lemmas.Nat.{div_below, div-add-mod'}
-use Rattle.std.proofs.lemmas.Bool.{cases_lt, lt-ltb}
+use Rattle.std.proofs.lemmas.Bool.{lt-ltb}
 use Rattle.std.proofs.lemmas.Bool.Decides.{nat_tests}
 use Rattle.std.proofs.lemmas.Grind.{div_ceil_times}
 use Rattle.std.proofs.lemmas.List.{get_or-take, get_or-drop, length-take, get_or-replicate, length-replicate, get_or_past, take_at, drop_at, ext_get_or}
 use Rattle.std.proofs.lemmas.List.FromFn.{get_or-range_with_len, length-range_with_len}
 use Rattle.std.proofs.lemmas.List.Sums.{AllPass-from_list_all, list_all-from_AllPass}
-use Rattle.std.proofs.lemmas.List.Elements.{All-from_get_or, All-append, All-take, All-drop}
+use Rattle.std.proofs.lemmas.List.Elements.{All-from_get_or, All-take, All-drop}
 use Rattle.hpe_base.specs.Lists.{tabulate, joined}
 use Rattle.hpe_base.specs.Bits.{bits_of, octet_bits, number_of, AreBits}
 use Rattle.hpe_base.specs.Parameters.{Parameters, IsValid, block_bits}
 use Rattle.hpe_base.specs.Frames.{frame_count, frame, frame_bits, bit_stream}
 use Rattle.hpe_base.specs.Slicer.{block_count, block_from}
 use Rattle.hpe_base.specs.FrameScan.{block_marks, marks_of, span_bits, all_known, has_marker, octets_of, delivered_frames}
-use Rattle.hpe_base.proofs.Tabulated.{length-tabulate, get_or-tabulate, tabulate_from_places, length-joined-each, joined-same}
-use Rattle.hpe_frame.proofs.EqualPieces.{get_or-joined}
-use Rattle.hpe_base.proofs.BitLists.{length-bits_of, number_of-bits_of, length-octet_bits, are_bits-bits_of, are_bits-octet_bits, are_bits-joined}
+use Rattle.hpe_base.proofs.Tabulated.{tabulate_from_places, length-joined-each, joined-same, get_or-joined}
+use Rattle.hpe_base.proofs.BitLists.{length-bits_of, number_of-bits_of, length-octet_bits}
 use Rattle.hpe_base.proofs.EachPlace.{list_all-range_with_len}
 use Rattle.hpe_base.proofs.ParameterLemmas.{code_steps-ge}
 use Rattle.hpe_base.proofs.Pieces.{flat_map-tabulate, length-piece, piece_at, piece_within}
+use Rattle.hpe_base.proofs.Shapes.{length-frame_bits, length-bit_stream, are_bits-bit_stream, length-block_from, get_or-block_from, get_or-lt_two}
 use Rattle.hpe_frame.specs.Laws.{block_if, frame_if, given_blocks, is_given, given_frames}
 use Rattle.hpe_frame.proofs.Gaps.{OnGrid, Quiet, gaps}
 
@@ -37,14 +37,6 @@ length-block_marks size false bits h = length-replicate size 2
 get_or-block_marks : (size r : ℕ) (kept : Bool) (bits : List ℕ) → r < size → get_or (block_marks size (block_if kept bits)) r 0 ≡ mark kept (get_or bits r 0)
 get_or-block_marks size r true bits h = refl
 get_or-block_marks size r false bits h = get_or-replicate size r 2 0 h
-
-length-block_from : (stream : List ℕ) (size w : ℕ) → length (block_from stream size w) ≡ size
-unfolding block_from
-length-block_from stream size w = length-tabulate size _
-
-get_or-block_from : (stream : List ℕ) (size w r : ℕ) → r < size → get_or (block_from stream size w) r 0 ≡ get_or stream (w * size + r) 0
-unfolding block_from
-get_or-block_from stream size w r h = get_or-tabulate size _ r 0 h
 
 -- the marks of the blocks
 abbrev stream_marks : Parameters → List ℕ → ℕ → (ℕ → Bool) → List ℕ
@@ -103,18 +95,6 @@ known_slice p stream w a n j here pos room k h =
     slice_at marks a n j h ∙ mark_at p stream w (a + j) here pos (omega arith) in
     at ∙ mark_known (here ((a + j) / block_bits p.rate)) (get_or stream (a + j) 0) (subst (λ x. x < 2) at low)
 
-length-frame : (p : Parameters) (octets : List ℕ) (f : ℕ) → f < frame_count p octets → length (frame p octets f) ≡ p.frame_octets
-length-frame p octets f h =
-    length-piece octets (f * p.frame_octets) p.frame_octets (omega (arith, div-add-mod' (length octets) p.frame_octets, piece_within (length octets / p.frame_octets) p.frame_octets f h))
-
-pub length-frame_bits : (p : Parameters) (octets : List ℕ) (f : ℕ) → f < frame_count p octets → length (frame_bits p octets f) ≡ span_bits p
-length-frame_bits p octets f h =
-    omega (arith, length-append (bits_of 32 p.frame_marker) (octet_bits (frame p octets f)), length-bits_of 32 p.frame_marker, length-octet_bits (frame p octets f), length-frame p octets f h)
-
-pub length-bit_stream : (p : Parameters) (octets : List ℕ) → length (bit_stream p octets) ≡ frame_count p octets * span_bits p
-unfolding bit_stream
-length-bit_stream p octets = length-joined-each (frame_count p octets) (span_bits p) (frame_bits p octets) (λ f b. length-frame_bits p octets f b)
-
 stream_at : (p : Parameters) (octets : List ℕ) (f j : ℕ) → f < frame_count p octets → j < span_bits p →
     get_or (bit_stream p octets) (f * span_bits p + j) 0 ≡ get_or (frame_bits p octets f) j 0
 unfolding bit_stream
@@ -145,7 +125,7 @@ other_number a b h = grind (arith, nat_tests)
 pub marker_of_frame : (p : Parameters) (octets : List ℕ) (f : ℕ) → IsValid p → has_marker p (frame_bits p octets f) ≡ true
 marker_of_frame p octets f v =
     let front : take 32 (frame_bits p octets f) ≡ bits_of 32 p.frame_marker = take_at (bits_of 32 p.frame_marker) (octet_bits (frame p octets f)) 32 (length-bits_of 32 p.frame_marker) in
-    let high : p.frame_marker < 2 ^ 32 = v.frame_marker_high in
+    let high : p.frame_marker < 2 ^ 32 = v.range.frame_marker_high in
     let number : number_of (take 32 (frame_bits p octets f)) ≡ p.frame_marker = ap number_of front ∙ (number_of-bits_of 32 p.frame_marker ∙ omega arith) in
     ap (λ n. n == p.frame_marker) number ∙ same_number p.frame_marker
 
@@ -192,7 +172,7 @@ quiet_behind p octets w here v pos = λ place h room k.
     get_or-take 32 (slice_range marks place (place + span_bits p)) j 0 low
     ∙ (known_slice p (bit_stream p octets) w place (span_bits p) j here pos (omega arith) k (omega arith)
     ∙ get_or_past (bit_stream p octets) (place + j) 0 (omega (arith, length-bit_stream p octets)))) in
-    ap (λ n. n == p.frame_marker) none ∙ other_number 0 p.frame_marker v.frame_marker_low
+    ap (λ n. n == p.frame_marker) none ∙ other_number 0 p.frame_marker v.range.frame_marker_low
 
 -- the frames all of whose blocks are here, in order
 pub frames_kept : (p : Parameters) (octets : List ℕ) (w : ℕ) (here : ℕ → Bool) → IsValid p → 0 < block_bits p.rate → Fills p octets w → ((f : ℕ) → All (λ o. o < 256) (frame p octets f)) →
@@ -210,10 +190,6 @@ mark_here : (kept : Bool) (b : ℕ) → mark kept b < 2 → kept ≡ true
 mark_here true b h = refl
 mark_here false b h = absurd (omega arith)
 
-bit_or_zero : (stream : List ℕ) (i : ℕ) → AreBits stream → get_or stream i 0 < 2
-bit_or_zero stream i bits =
-    elim (cases_lt i (length stream)) [ inl h ↦ bits i 0 h | inr h ↦ rw (get_or_past stream i 0 h) (omega arith) ]
-
 -- a span is given exactly where each block that it touches is here
 pub span_given_if : (p : Parameters) (octets : List ℕ) (w f : ℕ) (here : ℕ → Bool) → 0 < block_bits p.rate → Fills p octets w → f < frame_count p octets → AreBits (bit_stream p octets) →
     ((j : ℕ) → j < span_bits p → here ((f * span_bits p + j) / block_bits p.rate) ≡ true) → span_given p octets w here f ≡ true
@@ -226,7 +202,7 @@ span_given_if p octets w f here pos fills h bits all =
     let below : j < span_bits p = omega arith in
     let at : get_or (slice_range marks (f * span_bits p) (f * span_bits p + span_bits p)) j 0 ≡ mark (here ((f * span_bits p + j) / block_bits p.rate)) (get_or (bit_stream p octets) (f * span_bits p + j) 0) =
     slice_at marks (f * span_bits p) (span_bits p) j below ∙ mark_at p (bit_stream p octets) w (f * span_bits p + j) here pos (omega arith) in
-    lt-ltb _ 2 (subst (λ x. x < 2) (sym at) (mark_bit _ _ (all j below) (bit_or_zero (bit_stream p octets) (f * span_bits p + j) bits)))))
+    lt-ltb _ 2 (subst (λ x. x < 2) (sym at) (mark_bit _ _ (all j below) (get_or-lt_two (bit_stream p octets) (f * span_bits p + j) bits)))))
 
 pub span_given_only : (p : Parameters) (octets : List ℕ) (w f j : ℕ) (here : ℕ → Bool) → 0 < block_bits p.rate → Fills p octets w → f < frame_count p octets → j < span_bits p →
     span_given p octets w here f ≡ true → here ((f * span_bits p + j) / block_bits p.rate) ≡ true
@@ -251,12 +227,6 @@ each_given p given f j h b =
     let same : get_or (range_with_len 0 (span_bits p)) j 0 ≡ j = omega arith in
     let all : AllPass (λ i. given ((f * span_bits p + i) / block_bits p.rate)) (range_with_len 0 (span_bits p)) = AllPass-from_list_all _ _ h in
     ap (λ i. given ((f * span_bits p + i) / block_bits p.rate)) (sym same) ∙ all j 0 (omega (arith, length-range_with_len 0 (span_bits p)))
-
-are_bits-bit_stream : (p : Parameters) (octets : List ℕ) → AreBits (bit_stream p octets)
-unfolding bit_stream
-are_bits-bit_stream p octets =
-    are_bits-joined (frame_count p octets) (frame_bits p octets)
-    (λ f. All-append (λ b. b < 2) (bits_of 32 p.frame_marker) (octet_bits (frame p octets f)) (are_bits-bits_of 32 p.frame_marker) (are_bits-octet_bits (frame p octets f)))
 
 fills : (p : Parameters) (octets : List ℕ) → 0 < block_bits p.rate → Fills p octets (block_count p octets)
 fills p octets pos =

@@ -1,8 +1,6 @@
 pub mod FrameBits
 pub mod Scanning
-pub mod EqualPieces
 pub mod SpanBits
-pub mod Growing
 pub mod Running
 pub mod Standing
 pub mod Gaps

@@ -13,7 +13,7 @@ use Rattle.hpe_frame.specs.declared.span.Look.{Look}
 use Rattle.hpe_frame.specs.declared.span.Look.TheVariants.{Frame, Gap, Other}
 use Rattle.hpe_frame.specs.Looking.{look_of, by_look}
 use Rattle.hpe_frame.proofs.SpanBits.{step_by_look}
-use Rattle.hpe_frame.proofs.Growing.{front_after, front_before, all_after}
+use Rattle.hpe_io.proofs.Fronts.{front_after, front_before, all_after}
 
 -- the octets of frames
 abbrev pub all_octets : List (List ℕ) → List ℕ

@@ -1,10 +1,10 @@
 // Octets to the bits of marked frames. Only the octets of one frame are kept, and each bit is read from them.
-ghost use Rattle.std.specs.Prelude.{◌≡◌, ◌≤◌, ◌<◌, ◌+◌, ◌*◌, ◌/◌, ◌-◌, ◌%◌, ◌↔◌, [], ◌∷◌, ◌++◌, length, IfOk, IsTrue, slice_index};
+ghost use Rattle.std.specs.Prelude.{◌≡◌, ◌<◌, ◌+◌, ◌*◌, ◌/◌, ◌-◌, ◌%◌, ◌↔◌, [], ◌∷◌, ◌++◌, length, IfOk, IsTrue, slice_index};
 ghost use Rattle.hpe_base.specs.Frames.{frame_bits};
 ghost use Rattle.hpe_frame.specs.Feeding.{HasFed, marked};
 
-use crate::bits::{MARKER_BITS, OCTET_BITS, bit_of};
-use hpe_base::Profile;
+use hpe_base::bits::{OCTET_BITS, bit_of};
+use hpe_base::{FRAME_MARKER_BITS, Profile};
 use hpe_io::NoMemory;
 use std::alloc::Global;
 use std::marker::Model;
@@ -65,16 +65,16 @@ impl FrameFeed {
     /// eight bits each, the most significant bit of the marker and of each octet first. It is 0 or 1.
     pub fn bit(&self, i: usize) -> u8
         requires whole { length self.now.held ≡ self.now.parameters.frame_octets }
-        requires within { i < MARKER_BITS + OCTET_BITS * self.now.parameters.frame_octets }
+        requires within { i < FRAME_MARKER_BITS + OCTET_BITS * self.now.parameters.frame_octets }
         ensures value { result ≡ slice_index (marked self.now) i }
         ensures law { (fed : _) → HasFed self.now fed
             → result ≡ slice_index (frame_bits self.now.parameters fed (length fed / self.now.parameters.frame_octets - 1)) i }
         ensures bit { result < 2 }
     {
-        if i < MARKER_BITS {
-            return bit_of(self.profile.frame_marker(), MARKER_BITS, i);
+        if i < FRAME_MARKER_BITS {
+            return bit_of(self.profile.frame_marker(), FRAME_MARKER_BITS, i);
         }
-        let place = i - MARKER_BITS;
+        let place = i - FRAME_MARKER_BITS;
         let octet = self.octets[place / OCTET_BITS];
         bit_of(octet as u32, OCTET_BITS, place % OCTET_BITS)
     }

@@ -2,7 +2,6 @@
 //! such bits, of which some are lost.
 #![tactic(auto)]
 
-mod bits;
 mod feed;
 mod laws;
 mod scan;

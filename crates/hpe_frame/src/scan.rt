@@ -1,17 +1,17 @@
-// The frames in blocks that come one at a time. Only the bits that are still to be scanned are kept: less than a span
-// and one block.
-ghost use Rattle.std.specs.Prelude.{◌≡◌, ◌≤◌, ◌<◌, ◌+◌, ◌*◌, ◌^◌, ◌-◌, ◌++◌, ◌∷◌, [], length, take, drop, IfOk, IfSome, OnOk, false, option_copied, is_err, vec_len, vec_capacity};
+//! The frames in blocks that come one at a time. Only the bits that are still to be scanned are kept: less than a span
+//! and one block.
+ghost use Rattle.std.specs.Prelude.{◌≡◌, ◌≤◌, ◌<◌, ◌+◌, ◌^◌, ◌-◌, ◌++◌, ◌∷◌, [], length, drop, IfOk, IfSome, OnErr, OnOk, false, option_copied, is_err, vec_len, vec_capacity};
 ghost use Rattle.std.specs.List.{flat_map};
 ghost use Rattle.std.specs.Io.KnownBytes.{append_known};
 ghost use Rattle.hpe_base.specs.Parameters.{block_bits};
 ghost use Rattle.hpe_base.specs.FrameScan.{scan_from, span_bits, block_marks, delivered_frames, delivered};
-ghost use Rattle.hpe_io.specs.Devices.{Puts, HasCause};
+ghost use Rattle.hpe_io.specs.Devices.{Puts};
+ghost use Rattle.hpe_io.specs.Standing.{SinkAnswers};
 ghost use Rattle.hpe_frame.specs.Looking.{StandsAt};
 ghost use Rattle.hpe_frame.specs.Scanning.{HasScanned, newly};
 
-use crate::bits::MARKER_BITS;
-use crate::span::{Look, UNKNOWN, fill_octets, look_at, span_of};
-use hpe_base::Profile;
+use crate::span::{Look, UNKNOWN, fill_octets, look_at};
+use hpe_base::{FRAME_MARKER_BITS, Profile};
 use hpe_io::{Failed, NoMemory, Sink};
 use std::alloc::Global;
 use std::marker::Model;
@@ -36,13 +36,15 @@ fn scan_on<O: Sink>(
     requires size { length bits.now < 2 ^ 30 }
     requires octets { length octets.old ≡ p.now.frame_octets }
     ensures octets { length octets.new ≡ length octets.old }
-    ensures within { IfOk result (λ run. (run.at ≤ length bits.now) × (length bits.now < run.at + span_bits p.now) × (run.delivered ≤ run.at)) }
-    ensures run { IfOk result (λ run. StandsAt run.at run.grid run.delivered (scan_from p.now bits.now (record { grid = grid; place = 0; frames = [] }))) }
-    ensures bytes { Puts (O.written out.old) (O.written out.new) result (flat_map (λ frame. frame) (scan_from p.now bits.now (record { grid = grid; place = 0; frames = [] })).frames) }
-    ensures cause { HasCause (O.faults out.old) (O.faults out.new) result }
-    ensures mark { O.mark out.new ≡ O.mark out.old }
+    ensures within { IfOk result (λ run. (run.at ≤ length bits.now) × (length bits.now < run.at + span_bits p.now)) }
+    ensures few { IfOk result (λ run. run.delivered ≤ run.at) }
+    ensures run { let end = scan_from p.now bits.now (record { grid = grid; place = 0; frames = [] }) in
+        IfOk result (λ run. StandsAt run.at run.grid run.delivered end) }
+    ensures bytes { let end = scan_from p.now bits.now (record { grid = grid; place = 0; frames = [] }) in
+        Puts (O.written out.old) (O.written out.new) result (flat_map (λ frame. frame) end.frames) }
+    ensures sink { SinkAnswers O.faults O.mark out.old out.new result }
 {
-    let span = span_of(p);
+    let span = p.span_bits();
     let mut run = Run {
         at: 0,
         grid,
@@ -52,11 +54,8 @@ fn scan_on<O: Sink>(
         let window = &bits[run.at..run.at + span];
         match look_at(p, run.grid, window) {
             Look::Frame => {
-                fill_octets(&window[MARKER_BITS..], octets);
-                match out.put(octets) {
-                    Ok(()) => {}
-                    Err(failed) => return Err(failed),
-                }
+                fill_octets(&window[FRAME_MARKER_BITS..], octets);
+                out.put(octets)?;
                 run = Run {
                     at: run.at + span,
                     grid: true,
@@ -119,6 +118,7 @@ pub struct FrameScan {
     octets: Vec<u8>,
     grid: bool,
     frames: u64,
+    /// The number of blocks, which only the contracts read: it bounds the number of frames.
     blocks: u64,
     spent: bool,
 }
@@ -143,7 +143,7 @@ impl FrameScan {
         ensures stands { IfOk result (λ s. HasScanned s []) }
         ensures unspent { IfOk result (λ s. s.spent ≡ false) }
     {
-        let Ok(held) = Vec::with_capacity(alloc, span_of(p) + p.rate().block()) else {
+        let Ok(held) = Vec::with_capacity(alloc, p.span_bits() + p.rate().block()) else {
             return Err(NoMemory);
         };
         let Ok(octets) = vec![in alloc; 0; p.frame_octets()] else {
@@ -178,7 +178,8 @@ impl FrameScan {
     /// Takes the bits of the next block, or `None` where it is lost, puts the frames that are now delivered, each in one
     /// piece, and answers their number.
     ///
-    /// After `Failed`, which says that the sink had a fault, some front of their octets is put, and the scan is spent.
+    /// After `Failed`, which says that the sink had a fault, some front of their octets is put, none of them is counted,
+    /// and the scan is spent.
     pub fn block<O: Sink>(&mut self, known: Option<&[u8]>, out: &mut O) -> Result<u32, Failed>
         requires unspent { self.old.spent ≡ false }
         requires few { self.old.blocks < 2 ^ 40 }
@@ -197,10 +198,10 @@ impl FrameScan {
         ensures written { (start : _) (blocks : _) → HasScanned self.old blocks
             → O.written out.old ≡ append_known start (delivered self.old.parameters blocks)
             → Puts start (O.written out.new) result (delivered self.old.parameters (blocks ++ option_copied known.entry ∷ [])) }
+        ensures failed { OnErr result (self.new.frames ≡ self.old.frames) }
         ensures spent { self.new.spent ≡ is_err result }
         ensures blocks { self.new.blocks ≡ self.old.blocks + 1 }
-        ensures cause { HasCause (O.faults out.old) (O.faults out.new) result }
-        ensures mark { O.mark out.new ≡ O.mark out.old }
+        ensures sink { SinkAnswers O.faults O.mark out.old out.new result }
     {
         let size = self.profile.rate().block();
         append_block(&mut self.held, known, size);

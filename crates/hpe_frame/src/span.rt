@@ -1,13 +1,13 @@
 // What stands at one place of the bits of a scan: the span of a frame marker and a frame.
 //
 // A search looks at a span for each bit, so a look begins with the marker, of which mostly a few bits are compared.
-ghost use Rattle.std.specs.Prelude.{◌≡◌, ◌≤◌, ◌<◌, ◌+◌, ◌*◌, ◌^◌, ◌↔◌, length, take, IsTrue};
+ghost use Rattle.std.specs.Prelude.{◌≡◌, ◌≤◌, ◌+◌, ◌*◌, ◌↔◌, length, take, IsTrue};
 ghost use Rattle.hpe_base.specs.Bits.{AreBits, bits_of};
 ghost use Rattle.hpe_base.specs.FrameScan.{all_known, has_marker, span_bits, octets_of};
 ghost use Rattle.hpe_frame.specs.Looking.{look_of};
 
-use crate::bits::{MARKER_BITS, OCTET_BITS, bit_of, octet_of};
-use hpe_base::Profile;
+use hpe_base::bits::{OCTET_BITS, bit_of, number_of};
+use hpe_base::{FRAME_MARKER_BITS, Profile};
 
 /// The least number that stands for no bit.
 pub(crate) const UNKNOWN: u8 = 2;
@@ -23,22 +23,13 @@ pub(crate) enum Look {
     Other,
 }
 
-/// The bits of a frame with its marker.
-pub(crate) fn span_of(p: &Profile) -> usize
-    ensures value { result ≡ span_bits p.now }
-    ensures low { 40 ≤ result }
-    ensures high { result ≤ 2 ^ 20 }
-{
-    MARKER_BITS + OCTET_BITS * p.frame_octets()
-}
-
 /// Whether bits begin with those of a marker.
 fn is_marked(marker: u32, bits: &[u8]) -> bool
     requires { 32 ≤ length bits.now }
     ensures { IsTrue result ↔ (take 32 bits.now ≡ bits_of 32 marker) }
 {
-    for i in 0..MARKER_BITS {
-        if bits[i] != bit_of(marker, MARKER_BITS, i) {
+    for i in 0..FRAME_MARKER_BITS {
+        if bits[i] != bit_of(marker, FRAME_MARKER_BITS, i) {
             return false;
         }
     }
@@ -82,6 +73,6 @@ pub(crate) fn fill_octets(bits: &[u8], into: &mut [u8])
     ensures { into.new ≡ octets_of bits.now }
 {
     for i in 0..into.len() {
-        into[i] = octet_of(&bits[i * OCTET_BITS..i * OCTET_BITS + OCTET_BITS]);
+        into[i] = number_of(&bits[i * OCTET_BITS..i * OCTET_BITS + OCTET_BITS]);
     }
 }

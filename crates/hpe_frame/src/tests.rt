@@ -58,20 +58,10 @@ fn bits_of_a_frame(rt: HostRuntime) -> Result<(), Fail> {
 /// A valid profile of frames of one octet with that frame marker.
 fn frames_of_one(frame_marker: i64) -> Result<Profile, Fail> {
     let p = Profile::new(&Fields {
-        order: 16,
-        rate: "1/3",
         frame_octets: 1,
         frame_marker,
-        taps: 169,
-        seed: 255,
-        check: 537_149_449,
-        columns: "111",
-        rows: 1,
-        delay: 1,
         marker: &[0],
-        repeat: 1,
-        rounds: 16,
-        search: 1,
+        ..Fields::basic()
     })?;
     Ok(p)
 }

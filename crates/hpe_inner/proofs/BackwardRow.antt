@@ -2,7 +2,7 @@
 use Rattle.std.proofs.Common.{◌≡◌, ℕ, zero, suc, ◌+◌, ◌-◌, ◌*◌, ◌/◌, ◌%◌, ◌^◌, ◌<◌, ◌≤◌, sym, ◌∙◌, ap, ap₂, subst, refl, arith, ℤ, pos, ◌+ℤ◌, List, [], ◌∷◌, length, take, drop, get_or, Some, rules}
 use Rattle.std.specs.Prelude.{IsSome}
 use Rattle.std.proofs.lemmas.Int.{ints}
-use Rattle.std.proofs.lemmas.List.{places}
+use Rattle.std.proofs.lemmas.List.{places, length-take}
 use Rattle.std.proofs.Math.Nat.{mul-le-mul_right, div-lt_iff_lt-mul}
 use borrow.Rule.Slice.PartMut.{put_mid}
 use Rattle.hpe_base.specs.Parameters.{symbol_bits}
@@ -13,9 +13,10 @@ use Rattle.hpe_base.specs.GreatestScores.{inner_top}
 use Rattle.hpe_base.specs.SoftValues.{inner_soft_value, difference}
 use Rattle.hpe_base.specs.declared.profile.Order.{Order}
 use Rattle.hpe_base.proofs.Trellis.{Back, IsRun, back_step, back_last, meet}
+use Rattle.hpe_base.proofs.ParameterLemmas.{positions-high}
 use Rattle.hpe_lane.specs.Edges.{input_bit, edge_of}
 use Rattle.hpe_lane.proofs.Soft.{IsGreatest-score, IsSoft-score}
-use Rattle.hpe_inner.specs.Sweeps.{stage_edge, inner_edge, inner_next, inner_start, ForwardRows, BackRow, IsSoftAt}
+use Rattle.hpe_inner.specs.Sweeps.{stage_edge, inner_edge, inner_next, inner_start, IsForwardRow, BackRow, IsSoftAt}
 use Rattle.hpe_inner.proofs.BestWord.{walk-within, inner-top}
 use Rattle.hpe_inner.proofs.ForwardRow.{cut_is, cut_long, edge_is}
 
@@ -55,20 +56,20 @@ back_fits m t left end most counts l row e edges cap b s h =
 -- ---- where the rows meet
 module _ (o : Order) (n t i : ℕ) (counts : List ℕ) (l : List ℤ) (long : length l ≡ n * symbol_bits o) (lt : t < n) (li : i < symbol_bits o)
     (most : ℕ) (edges : (s p v : ℕ) → s < n → Within most (inner_edge (symbol_bits o) counts l s p v)) (short : n * most ≤ 371566440)
-    (left : ℕ) (all : t + suc left ≡ n) (rows : List (List ℤ)) (back : List ℤ)
-    (so_far : ForwardRows (symbol_bits o) n counts l rows) (later : BackRow (symbol_bits o) (t + 1) left counts l back) where
+    (left : ℕ) (all : t + suc left ≡ n) (fore back : List ℤ)
+    (so_far : IsForwardRow (symbol_bits o) t counts l fore) (later : BackRow (symbol_bits o) (t + 1) left counts l back) where
   meets : (b : ℕ) (z : ℤ) → b < 2
-      → IsGreatest (λ (e : ℕ × ℕ). IsEdge (2 ^ symbol_bits o) 2 e × (input_bit (symbol_bits o) i e.0 e.1 ≡ b)) (λ e. number_at (get_or rows t []) e.0 +ℤ (inner_edge (symbol_bits o) counts l t e.0 e.1 +ℤ number_at back (e.1 % 2))) z
+      → IsGreatest (λ (e : ℕ × ℕ). IsEdge (2 ^ symbol_bits o) 2 e × (input_bit (symbol_bits o) i e.0 e.1 ≡ b)) (λ e. number_at fore e.0 +ℤ (inner_edge (symbol_bits o) counts l t e.0 e.1 +ℤ number_at back (e.1 % 2))) z
       → inner_top o counts l (t * symbol_bits o + i) b ≡ Some z
   meets b z bit best =
       let m : ℕ = symbol_bits o in
       let class : ℕ → ℕ → Type 0 = λ p v. input_bit m i p v ≡ b in
-      let runs = meet (2 ^ m) 2 (inner_edge m counts l) inner_next inner_start (stays m) (λ s. pos 0) class t left (number_at (get_or rows t [])) (number_at back)
-      (λ p h. so_far.top t p (omega arith) h) later.top z best in
+      let runs = meet (2 ^ m) 2 (inner_edge m counts l) inner_next inner_start (stays m) (λ s. pos 0) class t left (number_at fore) (number_at back)
+      so_far.top later.top z best in
       let runs_n = subst (λ (k : ℕ). IsGreatest (λ (r : ℕ × List ℕ). IsRun (2 ^ m) 2 k r × class (state_at inner_next r.0 r.1 t) (get_or r.1 t 0)) (λ r. (inner_start r.0 +ℤ walk (inner_edge m counts l) inner_next 0 r.0 r.1) +ℤ pos 0) z) all runs in
       inner-top o n t i b counts l long lt li bit most edges short z runs_n
 
-  pub soft-at : (z : ℤ) → IsSoft (IsEdge (2 ^ symbol_bits o) 2) (λ (e : ℕ × ℕ). input_bit (symbol_bits o) i e.0 e.1) (λ e. number_at (get_or rows t []) e.0 +ℤ (inner_edge (symbol_bits o) counts l t e.0 e.1 +ℤ number_at back (e.1 % 2))) z
+  pub soft-at : (z : ℤ) → IsSoft (IsEdge (2 ^ symbol_bits o) 2) (λ (e : ℕ × ℕ). input_bit (symbol_bits o) i e.0 e.1) (λ e. number_at fore e.0 +ℤ (inner_edge (symbol_bits o) counts l t e.0 e.1 +ℤ number_at back (e.1 % 2))) z
       → IsSoftAt o counts l (t * symbol_bits o + i) z
   soft-at z g = record { one = g.one; zero = g.zero; top_one = meets 1 g.one (omega arith) g.with_one; top_zero = meets 0 g.zero (omega arith) g.with_zero; value = g.value }
 
@@ -160,3 +161,12 @@ pub soft-tops : (o : Order) (counts : List ℕ) (l : List ℤ) (j b : ℕ) (z : 
 soft-tops o counts l j zero z low h = some_top o counts l j 0 h.zero h.top_zero
 soft-tops o counts l j (suc zero) z low h = some_top o counts l j 1 h.one h.top_one
 soft-tops o counts l j (suc (suc b)) z low h = absurd (omega arith)
+
+-- as many edges as the symbols of a stage
+pub stage_room : (o : Order) (k size t n : ℕ) (l from : List ℤ) → k ≡ symbol_bits o → size ≡ 2 ^ symbol_bits o → length l ≡ n * symbol_bits o → t < n → length from ≡ 256
+    → length (take size from) ≡ 2 ^ length (take ((t + 1) * k - t * k) (drop (t * k) l))
+stage_room o k size t n l from ek es el lt lf =
+    let high : 2 ^ symbol_bits o ≤ 256 = positions-high o in
+    let a : length (take size from) ≡ size = simp length-take (omega arith) in
+    let b : length (take ((t + 1) * k - t * k) (drop (t * k) l)) ≡ symbol_bits o = ap length (cut_is t k (symbol_bits o) l ek) ∙ cut_long t (symbol_bits o) n l el lt in
+    a ∙ es ∙ ap (λ (j : ℕ). 2 ^ j) (sym b)

@@ -13,7 +13,7 @@ use Rattle.hpe_base.specs.PathScores.{inner_score}
 use Rattle.hpe_base.specs.GreatestScores.{top_from, inner_top}
 use Rattle.hpe_base.specs.declared.profile.Order.{Order}
 use Rattle.hpe_base.proofs.Greatest.{IsGreatest-exclude, IsGreatest-carry}
-use Rattle.hpe_base.proofs.Trellis.{IsRun}
+use Rattle.hpe_base.proofs.Trellis.{IsRun, stage-suc, zero-walk-zero, replicate-path}
 use Rattle.hpe_base.proofs.GreatestScores.{top-is}
 use Rattle.hpe_lane.specs.Edges.{input_bit}
 use Rattle.hpe_inner.specs.Sweeps.{inner_edge, inner_next, inner_start}
@@ -24,35 +24,22 @@ use Rattle.hpe_inner.proofs.PathScore.{score-is}
 grow : (n most : ℕ) (x z : ℤ) → Within most x → Within (n * most) z → Within (suc n * most) (x +ℤ z)
 grow n most x z h k = (omega (arith, ints), omega (arith, ints))
 
-shift : (t n : ℕ) → t + suc n ≡ t + 1 + n
-shift t n = omega arith
-
 -- n stages score at most n times what an edge scores
 pub walk-within : (edge : ℕ → ℕ → ℕ → ℤ) (next : ℕ → ℕ → ℕ) (size most end n t p : ℕ) (us : List ℕ) → ((s q u : ℕ) → s < end → Within most (edge s q u)) → t + n ≡ end → IsPath size n us → Within (n * most) (walk edge next t p us)
 walk-within edge next size most end zero t p [] f e h = (omega (arith, ints), omega (arith, ints))
 walk-within edge next size most end zero t p (u ∷ us) f e h = absurd h
 walk-within edge next size most end (suc n) t p [] f e h = absurd h
 walk-within edge next size most end (suc n) t p (u ∷ us) f e h =
-    grow n most (edge t p u) (walk edge next (t + 1) (next p u) us) (f t p u (omega arith)) (walk-within edge next size most end n (t + 1) (next p u) us f (sym (shift t n) ∙ e) h.1)
+    grow n most (edge t p u) (walk edge next (t + 1) (next p u) us) (f t p u (omega arith)) (walk-within edge next size most end n (t + 1) (next p u) us f (sym (stage-suc t n) ∙ e) h.1)
 
 same_bit : (a b : ℕ) → nat_eq a b ≡ true → a ≡ b
 same_bit a b h = eqb-true a b h
-
-bit_same : (a b : ℕ) → a ≡ b → nat_eq a b ≡ true
-bit_same a b h = eq-eqb a b h
 
 low_start : (n most : ℕ) (w : ℤ) → n * most ≤ 371566440 → Within (n * most) w → ((negsuc 1073741823 +ℤ w) +ℤ pos 0) ≤ℤ negsuc 702175383
 low_start n most w h k = let a = k.0 in omega (arith, ints)
 
 high_start : (n most : ℕ) (w : ℤ) → n * most ≤ 371566440 → Within (n * most) w → negsuc 702175383 <ℤ ((pos 0 +ℤ w) +ℤ pos 0)
 high_start n most w h k = let a = k.1 in omega (arith, ints)
-
-plain : (w : ℤ) → (pos 0 +ℤ w) +ℤ pos 0 ≡ w
-plain w = omega (arith, ints)
-
-replicate-path : (k b : ℕ) → b < 2 → IsPath 2 k (replicate k b)
-replicate-path zero b h = tt
-replicate-path (suc k) b h = (h, replicate-path k b h)
 
 next_of : (t n : ℕ) → t < n → t + 1 ≤ n
 next_of t n h = omega arith
@@ -83,7 +70,7 @@ module _ (m n t i b : ℕ) (edge : ℕ → ℕ → ℕ → ℤ) (score : List �
       → IsGreatest (λ (r : ℕ × List ℕ). (IsRun (2 ^ m) 2 n r × HasBit r) × (r.0 ≡ 0)) run_score z
   only_start z g =
       let x : List ℕ = replicate (n * m) b in
-      let px : IsPath 2 (n * m) x = replicate-path (n * m) b bit in
+      let px : IsPath 2 (n * m) x = replicate-path 2 (n * m) b bit in
       let vs : List ℕ = path_of m 0 n x in
       let pv : IsPath (2 ^ m) n vs = path-of-path m n 0 x px in
       let cv : HasBit (0, vs) = sym (word-bit m n 0 t i x px lt li) ∙ get_or-replicate (n * m) (t * m + i) b 0 (place_below t n m i lt li) in
@@ -96,7 +83,7 @@ module _ (m n t i b : ℕ) (edge : ℕ → ℕ → ℕ → ℤ) (score : List �
   asked x = nat_eq (get_or x (t * m + i) 0) b
 
   plain_score : (us : List ℕ) → run_score (0, us) ≡ walk edge inner_next 0 0 us
-  plain_score us = plain (walk edge inner_next 0 0 us)
+  plain_score us = zero-walk-zero (walk edge inner_next 0 0 us)
 
   words : (z : ℤ) → IsGreatest (λ (r : ℕ × List ℕ). (IsRun (2 ^ m) 2 n r × HasBit r) × (r.0 ≡ 0)) run_score z
       → IsGreatest (λ (x : List ℕ). IsPath 2 (n * m) x × (asked x ≡ true)) score z
@@ -108,7 +95,7 @@ module _ (m n t i b : ℕ) (edge : ℕ → ℕ → ℕ → ℤ) (score : List �
       let c : HasBit (0, r.1) = subst (λ (p : ℕ). HasBit (p, r.1)) h.1 h.0.1 in (
         x,
         (
-          (px, bit_same (get_or x (t * m + i) 0) b (word-bit m n 0 t i x px lt li ∙ ap (λ (us : List ℕ). input_bit m i (state_at inner_next 0 us t) (get_or us t 0)) back ∙ c)),
+          (px, eq-eqb (get_or x (t * m + i) 0) b (word-bit m n 0 t i x px lt li ∙ ap (λ (us : List ℕ). input_bit m i (state_at inner_next 0 us t) (get_or us t 0)) back ∙ c)),
           is x px ∙ ap (walk edge inner_next 0 0) back ∙ sym (plain_score r.1) ∙ ap (λ (p : ℕ). run_score (p, r.1)) (sym h.1),
         ),
       ))

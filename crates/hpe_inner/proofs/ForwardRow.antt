@@ -1,7 +1,6 @@
 -- The rows of the forward sweep, stage by stage.
-use Rattle.std.proofs.Common.{◌≡◌, ℕ, zero, suc, ◌+◌, ◌*◌, ◌%◌, ◌^◌, ◌<◌, ◌≤◌, ⊎_elim, sym, ◌∙◌, ap, subst, refl, arith, ℤ, pos, negsuc, ◌-◌, ◌+ℤ◌, ◌≤ℤ◌, List, [], ◌∷◌, length, take, drop, get_or, set, get_or-set_same, get_or-set_other, ◌≢◌}
+use Rattle.std.proofs.Common.{◌≡◌, ℕ, zero, suc, ◌+◌, ◌*◌, ◌%◌, ◌^◌, ◌<◌, ◌≤◌, sym, ◌∙◌, ap, subst, refl, arith, ℤ, pos, negsuc, ◌-◌, ◌+ℤ◌, ◌≤ℤ◌, List, [], ◌∷◌, length, take, drop, get_or}
 use Rattle.std.proofs.lemmas.Int.{ints}
-use Rattle.std.proofs.lemmas.Bool.{cases_lt}
 use Rattle.std.proofs.lemmas.List.{length-take, length-drop}
 use Rattle.std.proofs.Math.Nat.{mul-le-mul_right}
 use Rattle.std.proofs.Math.Pow.{pow_mono}
@@ -10,7 +9,7 @@ use Rattle.hpe_base.specs.Trellis.{IsEdge}
 use Rattle.hpe_base.proofs.Trellis.{Fore, fore_step, fore_first}
 use Rattle.hpe_base.specs.Sizes.{number_at, Within, AllWithin}
 use Rattle.hpe_lane.specs.Edges.{gray_from, edge_of}
-use Rattle.hpe_inner.specs.Sweeps.{stage_edge, inner_edge, inner_next, inner_start, RowWithin, ForwardRows}
+use Rattle.hpe_inner.specs.Sweeps.{stage_edge, inner_edge, inner_next, inner_start, RowWithin, IsForwardRow}
 use Rattle.hpe_base.proofs.Greatest.{IsGreatest-carry}
 use Rattle.hpe_lane.proofs.DifferingBits.{gray-within, list_within}
 use Rattle.hpe_lane.proofs.Sizes.{zero_within, wider, drop_within}
@@ -68,38 +67,15 @@ row-within most t size row next edge two ew w cap best =
     let b = subst (λ (n : ℕ). Within n (number_at next 1)) e (value_within most t size 1 row edge (number_at next 1) two (omega arith) ew w (best 1 (omega arith))) in
     (a, b.0, wide ((t + 1) * most) (number_at next 1) cap b)
 
-top_last : (m t : ℕ) (counts : List ℕ) (l : List ℤ) (rows : List (List ℤ)) (next : List ℤ) → ForwardRows m t counts l rows
-    → ((b : ℕ) → b < 2 → IsGreatest (λ (e : ℕ × ℕ). IsEdge (2 ^ m) 2 e × (e.1 % 2 ≡ b)) (λ e. number_at (get_or rows t []) e.0 +ℤ inner_edge m counts l t e.0 e.1) (number_at next b))
-    → (q : ℕ) → q < 2 → Fore (2 ^ m) 2 (inner_edge m counts l) inner_next inner_start (t + 1) q (number_at next q)
-top_last m t counts l rows next so_far best q h =
-    fore_step (2 ^ m) 2 (inner_edge m counts l) inner_next inner_start (stays m) t q (number_at next q) (number_at (get_or rows t []))
-    (λ p low. so_far.top t p (omega arith) low) (best q h)
-
 -- one row more
-pub ForwardRows-more : (m t : ℕ) (counts : List ℕ) (l : List ℤ) (rows : List (List ℤ)) (next : List ℤ) → t + 1 < length rows → 2 ≤ 2 ^ m → (t + 1) * ((m + 1) * 16383) ≤ 1100000000
+pub IsForwardRow-more : (m t : ℕ) (counts : List ℕ) (l row next : List ℤ) → 2 ≤ 2 ^ m → (t + 1) * ((m + 1) * 16383) ≤ 1100000000
     → ((p v : ℕ) → Within ((m + 1) * 16383) (inner_edge m counts l t p v))
-    → ForwardRows m t counts l rows
-    → ((b : ℕ) → b < 2 → IsGreatest (λ (e : ℕ × ℕ). IsEdge (2 ^ m) 2 e × (e.1 % 2 ≡ b)) (λ e. number_at (get_or rows t []) e.0 +ℤ inner_edge m counts l t e.0 e.1) (number_at next b))
-    → ForwardRows m (t + 1) counts l (set rows (t + 1) next)
-ForwardRows-more m t counts l rows next room two cap ew so_far best = record {
-  top = λ s q le low.
-      ⊎_elim
-      (λ (h : s < t + 1). let ne : s ≢ t + 1 = omega arith in let k : s ≤ t = omega arith in
-      subst (λ (row : List ℤ). Fore (2 ^ m) 2 (inner_edge m counts l) inner_next inner_start s q (number_at row q)) (sym (get_or-set_other rows (t + 1) s next [] ne)) (so_far.top s q k low))
-      (λ (h : t + 1 ≤ s). let same : t + 1 ≡ s = omega arith in
-      subst (λ (k : ℕ). Fore (2 ^ m) 2 (inner_edge m counts l) inner_next inner_start k q (number_at (get_or (set rows (t + 1) next) k []) q)) same
-      (subst (λ (row : List ℤ). Fore (2 ^ m) 2 (inner_edge m counts l) inner_next inner_start (t + 1) q (number_at row q)) (sym (get_or-set_same rows (t + 1) next [] room))
-      (top_last m t counts l rows next so_far best q low)))
-      (cases_lt s (t + 1));
-  small = λ s le.
-      ⊎_elim
-      (λ (h : s < t + 1). let ne : s ≢ t + 1 = omega arith in let k : s ≤ t = omega arith in
-      subst (RowWithin ((m + 1) * 16383) s) (sym (get_or-set_other rows (t + 1) s next [] ne)) (so_far.small s k))
-      (λ (h : t + 1 ≤ s). let same : t + 1 ≡ s = omega arith in
-      subst (λ (k : ℕ). RowWithin ((m + 1) * 16383) k (get_or (set rows (t + 1) next) k [])) same
-      (subst (RowWithin ((m + 1) * 16383) (t + 1)) (sym (get_or-set_same rows (t + 1) next [] room))
-      (row-within ((m + 1) * 16383) t (2 ^ m) (get_or rows t []) next (inner_edge m counts l t) two ew (so_far.small t (omega arith)) cap best)))
-      (cases_lt s (t + 1));
+    → IsForwardRow m t counts l row
+    → ((b : ℕ) → b < 2 → IsGreatest (λ (e : ℕ × ℕ). IsEdge (2 ^ m) 2 e × (e.1 % 2 ≡ b)) (λ e. number_at row e.0 +ℤ inner_edge m counts l t e.0 e.1) (number_at next b))
+    → IsForwardRow m (t + 1) counts l next
+IsForwardRow-more m t counts l row next two cap ew so_far best = record {
+  top = λ q low. fore_step (2 ^ m) 2 (inner_edge m counts l) inner_next inner_start (stays m) t q (number_at next q) (number_at row) so_far.top (best q low);
+  small = row-within ((m + 1) * 16383) t (2 ^ m) row next (inner_edge m counts l t) two ew so_far.small cap best;
 }
 
 first_value : (q : ℕ) → q < 2 → inner_start q ≡ number_at (pos 0 ∷ negsuc 1073741823 ∷ []) q
@@ -110,16 +86,27 @@ first_value (suc (suc q)) h = absurd (omega arith)
 first_small : (most : ℕ) → RowWithin most 0 (pos 0 ∷ negsuc 1073741823 ∷ [])
 first_small most = ((omega (arith, ints), omega (arith, ints)), omega (arith, ints), (omega (arith, ints), omega (arith, ints)))
 
-pub ForwardRows-first : (m : ℕ) (counts : List ℕ) (l : List ℤ) (rows : List (List ℤ)) → 0 < length rows → ForwardRows m 0 counts l (set rows 0 (pos 0 ∷ negsuc 1073741823 ∷ []))
-ForwardRows-first m counts l rows room = record {
-  top = λ s q le low. let zs : 0 ≡ s = omega arith in
-      subst (λ (k : ℕ). Fore (2 ^ m) 2 (inner_edge m counts l) inner_next inner_start k q (number_at (get_or (set rows 0 (pos 0 ∷ negsuc 1073741823 ∷ [])) k []) q)) zs
-      (subst (λ (row : List ℤ). Fore (2 ^ m) 2 (inner_edge m counts l) inner_next inner_start 0 q (number_at row q)) (sym (get_or-set_same rows 0 (pos 0 ∷ negsuc 1073741823 ∷ []) [] room))
-      (subst (Fore (2 ^ m) 2 (inner_edge m counts l) inner_next inner_start 0 q) (first_value q low) (fore_first (2 ^ m) 2 (inner_edge m counts l) inner_next inner_start q low)));
-  small = λ s le. let zs : 0 ≡ s = omega arith in
-      subst (λ (k : ℕ). RowWithin ((m + 1) * 16383) k (get_or (set rows 0 (pos 0 ∷ negsuc 1073741823 ∷ [])) k [])) zs
-      (subst (RowWithin ((m + 1) * 16383) 0) (sym (get_or-set_same rows 0 (pos 0 ∷ negsuc 1073741823 ∷ []) [] room)) (first_small ((m + 1) * 16383)));
+pub IsForwardRow-first : (m : ℕ) (counts : List ℕ) (l : List ℤ) → IsForwardRow m 0 counts l (pos 0 ∷ negsuc 1073741823 ∷ [])
+IsForwardRow-first m counts l = record {
+  top = λ q low. subst (Fore (2 ^ m) 2 (inner_edge m counts l) inner_next inner_start 0 q) (first_value q low) (fore_first (2 ^ m) 2 (inner_edge m counts l) inner_next inner_start q low);
+  small = first_small ((m + 1) * 16383);
 }
+
+-- a row is what its two numbers are
+pub IsForwardRow-same : (m t : ℕ) (counts : List ℕ) (l row : List ℤ) (x y : ℤ) → x ≡ number_at row 0 → y ≡ number_at row 1 → IsForwardRow m t counts l row → IsForwardRow m t counts l (x ∷ y ∷ [])
+IsForwardRow-same m t counts l row x y ex ey b = record {
+  top = λ q h. subst (Fore (2 ^ m) 2 (inner_edge m counts l) inner_next inner_start t q) (two_is row x y ex ey q h) (b.top q h);
+  small = let w = b.small in (
+    subst (Within (t * ((m + 1) * 16383))) (sym ex) w.0,
+    subst (λ (z : ℤ). z ≤ℤ pos (t * ((m + 1) * 16383))) (sym ey) w.1,
+    subst (Within 1100000000) (sym ey) w.2,
+  );
+}
+  where
+    two_is : (row : List ℤ) (x y : ℤ) → x ≡ number_at row 0 → y ≡ number_at row 1 → (s : ℕ) → s < 2 → number_at row s ≡ number_at (x ∷ y ∷ []) s
+    two_is row x y ex ey zero h = sym ex
+    two_is row x y ex ey (suc zero) h = sym ey
+    two_is row x y ex ey (suc (suc s)) h = absurd (omega arith)
 
 pub row_fits : (most t : ℕ) (row : List ℤ) → t * most ≤ 1100000000 → RowWithin most t row → (s : ℕ) → s < 2 → Within 1100000000 (number_at row s)
 row_fits most t row cap w zero h = wide (t * most) (number_at row 0) cap w.0

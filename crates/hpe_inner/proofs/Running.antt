@@ -1,7 +1,7 @@
 -- The symbols of a word, one after another, as the trellis takes them.
 use Rattle.std.proofs.Common.{◌≡◌, ℕ, zero, suc, ◌+◌, ◌-◌, ◌*◌, ◌%◌, ◌^◌, ◌<◌, sym, ◌∙◌, ap, ap₂, subst, refl, arith, List, [], ◌∷◌, length, take, drop, get_or, sum, zero-add}
 use Rattle.std.specs.Prelude.{slice_range}
-use Rattle.std.proofs.Math.Nat.{two-pow-succ}
+use Rattle.std.proofs.Math.Nat.{two-pow-succ, mod-lt, zero-mul, suc-add}
 use Rattle.std.proofs.lemmas.List.{drop-drop}
 use Rattle.std.proofs.lemmas.List.Sums.{sum_by-cons}
 use Rattle.hpe_base.specs.Lists.{tabulate}
@@ -10,7 +10,6 @@ use Rattle.hpe_base.specs.Accumulator.{accumulated}
 use Rattle.hpe_base.specs.Trellis.{IsPath}
 use Rattle.hpe_base.proofs.Tabulated.{length-tabulate, get_or-tabulate, tabulate_from_places, tabulate-none, tabulate-same}
 use Rattle.hpe_base.proofs.BitLists.{are_bits-none, are_bits-cons}
-use Rattle.hpe_base.proofs.Trellis.{suc_add}
 
 -- a list by places, from its front
 pub tabulate-cons : (n : ℕ) (f : ℕ → ℕ) → tabulate (suc n) f ≡ f 0 ∷ tabulate n (λ i. f (suc i))
@@ -29,12 +28,9 @@ pub length-running : (p : ℕ) (u : List ℕ) → length (running p u) ≡ lengt
 length-running p [] = refl
 length-running p (b ∷ u) = ap suc (length-running ((p + b) % 2) u)
 
-odd_below : (k : ℕ) → k % 2 < 2
-odd_below k = omega arith
-
 pub are_bits-running : (p : ℕ) (u : List ℕ) → AreBits (running p u)
 are_bits-running p [] = are_bits-none
-are_bits-running p (b ∷ u) = are_bits-cons ((p + b) % 2) (running ((p + b) % 2) u) (odd_below (p + b)) (are_bits-running ((p + b) % 2) u)
+are_bits-running p (b ∷ u) = are_bits-cons ((p + b) % 2) (running ((p + b) % 2) u) (mod-lt (p + b) (omega arith)) (are_bits-running ((p + b) % 2) u)
 
 same_parity : (p b s : ℕ) → (p + (b + s)) % 2 ≡ ((p + b) % 2 + s) % 2
 same_parity p b s = omega arith
@@ -103,9 +99,6 @@ chunked m (suc n) y = number_of (take m y) ∷ chunked m n (drop m y)
 first_group : (m : ℕ) → 0 * m + m - 0 * m ≡ m
 first_group m = omega arith
 
-no_group : (m : ℕ) → 0 * m ≡ 0
-no_group m = omega arith
-
 group_size : (m i : ℕ) → suc i * m + m - suc i * m ≡ i * m + m - i * m
 group_size m i = omega arith
 
@@ -116,7 +109,7 @@ groups-chunked : (m n : ℕ) (y : List ℕ) → tabulate n (λ s. number_of (sli
 groups-chunked m zero y = tabulate-none (λ s. number_of (slice_range y (s * m) (s * m + m)))
 groups-chunked m (suc n) y =
     tabulate-cons n (λ s. number_of (slice_range y (s * m) (s * m + m)))
-    ∙ ap₂ (λ (v : ℕ) (vs : List ℕ). v ∷ vs) (ap₂ (λ (a b : ℕ). number_of (take a (drop b y))) (first_group m) (no_group m))
+    ∙ ap₂ (λ (v : ℕ) (vs : List ℕ). v ∷ vs) (ap₂ (λ (a b : ℕ). number_of (take a (drop b y))) (first_group m) (zero-mul m))
     (tabulate-same n (λ i. number_of (slice_range y (suc i * m) (suc i * m + m))) (λ s. number_of (slice_range (drop m y) (s * m) (s * m + m)))
     (λ i h. ap₂ (λ (a b : ℕ). number_of (take a (drop b y))) (group_size m i) (next_group m i)
     ∙ ap (λ (z : List ℕ). number_of (take (i * m + m - i * m) z)) (sym (drop-drop (i * m) m y)))
@@ -129,9 +122,9 @@ path_of m p (suc n) x = number_of (running p (take m x)) ∷ path_of m (number_o
 
 pub path-take : (size m k : ℕ) (x : List ℕ) → IsPath size (m + k) x → IsPath size m (take m x) × IsPath size k (drop m x)
 path-take size zero k x h = (tt, subst (λ (n : ℕ). IsPath size n x) (zero-add k) h)
-path-take size (suc m) k [] h = absurd (subst (λ (n : ℕ). IsPath size n []) (sym (suc_add m k)) h)
+path-take size (suc m) k [] h = absurd (subst (λ (n : ℕ). IsPath size n []) (suc-add m k) h)
 path-take size (suc m) k (b ∷ x) h =
-    let w = subst (λ (n : ℕ). IsPath size n (b ∷ x)) (sym (suc_add m k)) h in
+    let w = subst (λ (n : ℕ). IsPath size n (b ∷ x)) (suc-add m k) h in
     let r = path-take size m k x w.1 in
     ((w.0, r.0), r.1)
 

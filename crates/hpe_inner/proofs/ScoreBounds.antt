@@ -11,6 +11,7 @@ use Rattle.hpe_base.specs.Sizes.{Within}
 use Rattle.hpe_base.specs.declared.profile.Order.{Order}
 use Rattle.hpe_base.specs.declared.profile.Order.TheVariants.{P4, P8, P16, P32, P64, P128, P256}
 use Rattle.hpe_base.proofs.Tabulated.{length-tabulate, sum-tabulate-none, sum-tabulate-suc}
+use Rattle.hpe_base.proofs.ParameterLemmas.{codeword_symbols-le}
 use Rattle.hpe_lane.proofs.ChosenSums.{chosen-within}
 use Rattle.hpe_inner.specs.Sweeps.{inner_start}
 use Rattle.hpe_inner.specs.Laws.{AreOfCodeword, IsWord, InnerScoresAreBounded}
@@ -24,15 +25,6 @@ sum-most (suc n) most f h =
     let k = sum-most n most f h in
     let last = h n in
     omega arith
-
-codeword_few : (o : Order) → codeword_symbols o ≤ 7560
-codeword_few P4 = lit≤ tt
-codeword_few P8 = lit≤ tt
-codeword_few P16 = lit≤ tt
-codeword_few P32 = lit≤ tt
-codeword_few P64 = lit≤ tt
-codeword_few P128 = lit≤ tt
-codeword_few P256 = lit≤ tt
 
 codeword_whole : (o : Order) → symbol_bits o * codeword_symbols o ≤ 15120
 codeword_whole P4 = lit≤ tt
@@ -77,7 +69,7 @@ module _ (o : Order) (counts : List ℕ) (l : List ℤ) (given : AreOfCodeword o
   pulses_few : (x : List ℕ) → IsWord l x → pulse_sum o counts (symbols_of o (accumulated x)) ≤ 123855480
   pulses_few x word =
       let a : length x / symbol_bits o ≤ codeword_symbols o = subst (λ (k : ℕ). k / symbol_bits o ≤ codeword_symbols o) (sym word.long) given.fits in
-      let b = codeword_few o in
+      let b = codeword_symbols-le o in
       let c = pulses-most o counts x (each_count counts given.most) in
       omega arith
 

@@ -1,6 +1,6 @@
 -- Words and paths: each path is that of one word, and its inputs hold the word's bits.
 use Rattle.std.proofs.Common.{◌≡◌, ℕ, zero, suc, ◌+◌, ◌*◌, ◌/◌, ◌%◌, ◌^◌, ◌<◌, sym, ◌∙◌, ap, ap₂, subst, refl, arith, List, [], ◌∷◌, ◌++◌, length, take, drop, get_or, add_comm}
-use Rattle.std.proofs.Math.Nat.{mod-eq_of_lt, zero-mul}
+use Rattle.std.proofs.Math.Nat.{mod-eq_of_lt, zero-mul, mod-lt}
 use Rattle.std.proofs.lemmas.List.{take_at, drop_at, get_or-take, get_or-drop}
 use Rattle.hpe_base.specs.Bits.{number_of, bits_of, xor}
 use Rattle.hpe_base.specs.Trellis.{IsPath, state_at}
@@ -10,9 +10,6 @@ use Rattle.hpe_base.proofs.Trellis.{path-length, path-append}
 use Rattle.hpe_lane.specs.Edges.{input_bit}
 use Rattle.hpe_inner.specs.Sweeps.{inner_next}
 use Rattle.hpe_inner.proofs.Running.{running, length-running, are_bits-running, path_of, path-take, group_more}
-
-odd_below : (k : ℕ) → k % 2 < 2
-odd_below k = omega arith
 
 pub number-below : (p : ℕ) (u : List ℕ) → number_of (running p u) < 2 ^ length u
 number-below p u = subst (λ (n : ℕ). number_of (running p u) < 2 ^ n) (length-running p u) (number_of-lt (running p u) (are_bits-running p u))
@@ -41,13 +38,13 @@ unrun-running p (suc n) (b ∷ u) h = ap₂ (λ (z : ℕ) (zs : List ℕ). z ∷
 bits-path : (k v : ℕ) → IsPath 2 k (bits_of k v)
 unfolding bits_of
 bits-path zero v = tt
-bits-path (suc k) v = (odd_below (v / 2 ^ k), bits-path k v)
+bits-path (suc k) v = (mod-lt (v / 2 ^ k) (omega arith), bits-path k v)
 
 unrun-path : (p n : ℕ) (ys : List ℕ) → IsPath 2 n ys → IsPath 2 n (unrun p ys)
 unrun-path p zero [] h = tt
 unrun-path p zero (y ∷ ys) h = absurd h
 unrun-path p (suc n) [] h = absurd h
-unrun-path p (suc n) (y ∷ ys) h = (odd_below (p + y), unrun-path y n ys h.1)
+unrun-path p (suc n) (y ∷ ys) h = (mod-lt (p + y) (omega arith), unrun-path y n ys h.1)
 
 -- the bits of the number that running parities write
 bits-number : (n p : ℕ) (u : List ℕ) → length u ≡ n → bits_of n (number_of (running p u)) ≡ running p u

@@ -1,6 +1,6 @@
 -- The inner code as a trellis, and what sweeps over it hold. The state is the last bit that the accumulator gave, and
 -- the input of a stage is its symbol, of m bits.
-use Rattle.std.specs.Prelude.{if◌then◌else◌, ◌==◌, ◌≡◌, ℕ, ◌+◌, ◌*◌, ◌%◌, ◌^◌, ◌<◌, ◌≤◌, ℤ, pos, negsuc, ◌+ℤ◌, ◌-ℤ◌, ◌≤ℤ◌, Some, List, [], slice_index, slice_index_or, take, drop}
+use Rattle.std.specs.Prelude.{if◌then◌else◌, ◌==◌, ◌≡◌, ℕ, ◌+◌, ◌*◌, ◌%◌, ◌^◌, ◌<◌, ℤ, pos, negsuc, ◌+ℤ◌, ◌-ℤ◌, ◌≤ℤ◌, Some, List, slice_index, take, drop}
 use Rattle.hpe_base.proofs.Trellis.{Fore, Back}
 use Rattle.hpe_base.specs.Sizes.{number_at, Within}
 use Rattle.hpe_base.specs.GreatestScores.{inner_top}
@@ -27,10 +27,10 @@ inner_start q = if q == 0 then pos 0 else negsuc 1073741823
 abbrev pub RowWithin : ℕ → ℕ → List ℤ → Type 0
 RowWithin most t row = Within (t * most) (number_at row 0) × (number_at row 1 ≤ℤ pos (t * most)) × Within 1100000000 (number_at row 1)
 
--- the rows up to stage t: each is the greatest of all runs that end in its state
-pub record ForwardRows (m t : ℕ) (counts : List ℕ) (l : List ℤ) (rows : List (List ℤ)) : Type 0 where
-  pub top : (s q : ℕ) → s ≤ t → q < 2 → Fore (2 ^ m) 2 (inner_edge m counts l) inner_next inner_start s q (number_at (slice_index_or rows s []) q)
-  pub small : (s : ℕ) → s ≤ t → RowWithin ((m + 1) * 16383) s (slice_index_or rows s [])
+-- the row before stage t: each number is the greatest of all runs that end in its state
+pub record IsForwardRow (m t : ℕ) (counts : List ℕ) (l : List ℤ) (row : List ℤ) : Type 0 where
+  pub top : (q : ℕ) → q < 2 → Fore (2 ^ m) 2 (inner_edge m counts l) inner_next inner_start t q (number_at row q)
+  pub small : RowWithin ((m + 1) * 16383) t row
 
 -- the backward row before stage t, with `left` stages from there on
 pub record BackRow (m t left : ℕ) (counts : List ℕ) (l : List ℤ) (row : List ℤ) : Type 0 where

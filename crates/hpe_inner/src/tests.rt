@@ -1,4 +1,4 @@
-ghost use Rattle.std.specs.Prelude.{◌≡◌, ◌<◌, ◌≤◌, ◌+◌, ◌*◌, true, length};
+ghost use Rattle.std.specs.Prelude.{◌≡◌, ◌<◌, ◌≤◌, ◌*◌, true, length};
 ghost use Rattle.hpe_base.specs.Sizes.{AllWithin};
 
 use crate::{inner_rows, inner_soft};
@@ -142,6 +142,98 @@ fn all_words(rt: HostRuntime) -> Result<(), Fail> {
         assert!(rt; soft == wanted, "{symbols} symbols");
     }
     Ok(())
+}
+
+/// What the edge of symbol v from state s scores at stage t of a word at order 4.
+fn edge(counts: &[u16], l: &[i32], t: usize, s: usize, v: usize) -> i32 {
+    let mut score = 0_i32;
+    if let Some(count) = counts.get(t.saturating_mul(4).saturating_add(v)) {
+        score = i32::from(*count);
+    }
+    for (i, bit) in [v / 2 ^ s, v / 2 ^ v % 2].iter().enumerate() {
+        if *bit == 1
+            && let Some(number) = l.get(t.saturating_mul(2).saturating_add(i))
+        {
+            score = score.saturating_add(*number);
+        }
+    }
+    score
+}
+
+/// The soft values at order 4, by sweeps over the whole word that keep each row.
+fn swept(alloc: Global, symbols: usize, counts: &[u16], l: &[i32]) -> Result<Vec<i32>, AllocError> {
+    let mut rows = Vec::new(alloc);
+    let mut row = [0_i32, -1_000_000];
+    for t in 0..symbols {
+        rows.push(row)?;
+        let mut next = [-1_000_000_i32; 2];
+        for s in 0..2 {
+            for v in 0..4 {
+                let score = row[s].saturating_add(edge(counts, l, t, s, v));
+                next[v % 2] = score.max(next[v % 2]);
+            }
+        }
+        row = next;
+    }
+    let mut soft = vec![in alloc; 0; l.len()]?;
+    let mut back = [0_i32; 2];
+    for k in 0..symbols {
+        let t = symbols - 1 - k;
+        let mut before = [-1_000_000_i32; 2];
+        let mut best = [[-1_000_000_i32; 2]; 2];
+        for s in 0..2 {
+            for v in 0..4 {
+                let rest = edge(counts, l, t, s, v).saturating_add(back[v % 2]);
+                before[s] = rest.max(before[s]);
+                if let Some(fore) = rows.get(t) {
+                    let score = fore[s].saturating_add(rest);
+                    for (i, bit) in [v / 2 ^ s, v / 2 ^ v % 2].iter().enumerate() {
+                        best[i][bit % 2] = score.max(best[i][bit % 2]);
+                    }
+                }
+            }
+        }
+        for i in 0..2 {
+            if let Some(place) = soft.get_mut(t.saturating_mul(2).saturating_add(i)) {
+                *place = best[i][1].saturating_sub(best[i][0]);
+            }
+        }
+        back = before;
+    }
+    Ok(soft)
+}
+
+#[test]
+fn windows_beside_whole_sweeps(rt: HostRuntime) -> Result<(), Fail> {
+    for symbols in [1, 63, 64, 65, 129] {
+        let mut counts = vec![in rt.alloc(); 0; symbols * Order::P4.slots()]?;
+        for (i, count) in counts.iter_mut().enumerate() {
+            *count = (i % 11 * 7 % 11) as u16;
+        }
+        let mut l = vec![in rt.alloc(); 0; symbols * Order::P4.bits() as usize]?;
+        for (i, number) in l.iter_mut().enumerate() {
+            *number = (i % 13 * 5 % 13) as i32 - 6;
+        }
+        let soft = soft_values(&rt, rt.alloc(), Order::P4, symbols, &counts, &l)?;
+        let wanted = swept(rt.alloc(), symbols, &counts, &l)?;
+        assert!(rt; soft == wanted, "{symbols} symbols");
+    }
+    Ok(())
+}
+
+#[test]
+fn rows_of_windows(rt: HostRuntime) {
+    for (symbols, rows) in [
+        (1, 65),
+        (63, 65),
+        (64, 65),
+        (65, 66),
+        (129, 67),
+        (3_780, 124),
+    ] {
+        assert!(rt; symbols <= 10_080);
+        assert_eq!(rt; inner_rows(symbols), rows);
+    }
 }
 
 /// The counts of a whole codeword: 3 in each slot, but for the first of each symbol.

@@ -19,3 +19,8 @@ append_twice xs ys (Some zs) = ap Some (append_assoc zs xs ys)
 pub append_nothing : (known : Option (List ℕ)) → append_known known [] ≡ known
 append_nothing None = refl
 append_nothing (Some zs) = ap Some (append-nil zs)
+
+-- no octet was taken
+pub prepend_nothing : (known : Option (List ℕ)) → prepend_known [] known ≡ known
+prepend_nothing None = refl
+prepend_nothing (Some zs) = refl

@@ -1,2 +1,6 @@
+pub mod Fronts
 pub mod Known
+pub mod Marks
 mod Passing
+pub mod Results
+pub mod Taking

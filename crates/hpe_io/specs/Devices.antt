@@ -1,5 +1,5 @@
 -- What a source and a sink say of the octets that pass and of their faults.
-use Rattle.std.specs.Prelude.{◌≡◌, ℕ, ◌+◌, ◌-◌, ◌^◌, ◌≤◌, ◌↔◌, min, List, [], length, take, drop, Result, OnErr, MatchResult, IfSome}
+use Rattle.std.specs.Prelude.{◌≡◌, ℕ, ◌+◌, ◌-◌, ◌^◌, ◌≤◌, ◌↔◌, min, List, [], length, take, drop, Result, OnErr, OnOk, MatchResult, IfSome}
 use Rattle.std.specs.declared.option.Option.{Option}
 use Rattle.std.specs.Io.KnownBytes.{prepend_known, append_known, IsAtEnd}
 
@@ -13,10 +13,11 @@ next_count count = min (count + 1) (2 ^ 64 - 1)
 abbrev pub Rose : ℕ → ℕ → Type 0
 Rose before now = next_count before ≤ now
 
--- a count of faults never falls, and a failure comes only where it rose
+-- a count of faults never falls, a failure comes only where it rose, and without one it stays
 pub record HasCause {T E : Type 0} (before now : ℕ) (result : Result T E) : Type 0 where
   pub later : before ≤ now
   pub failed : OnErr result (Rose before now)
+  pub kept : OnOk result (now ≡ before)
 
 -- ---- one call
 

@@ -18,9 +18,9 @@ pub struct NoMemory;
 /// What octets are read from.
 ///
 /// Contracts see of a source the octets that are left, which it may tell or not, and a count of its faults.
-/// The count never falls, and stays at 2^64 - 1 once it is there. The mark and the build are numbers by
-/// which contracts of sources that hold another one know what they were built with. No take changes them,
-/// nor whether left is told.
+/// The count never falls, and stays at 2^64 - 1 once it is there; a take that doesn't fail leaves it. The mark and
+/// the build are numbers by which contracts of sources that hold another one know what they were built with. No
+/// take changes them, nor whether left is told.
 pub trait Source {
     ghost left: { Self → Option (List ℕ) };
 
@@ -44,8 +44,8 @@ pub trait Source {
 /// What octets are written to.
 ///
 /// Contracts see of a sink the octets that were written, which it may tell or not, and a count of its
-/// faults. The count never falls, and stays at 2^64 - 1 once it is there. The mark is a number that no put
-/// changes.
+/// faults. The count never falls, and stays at 2^64 - 1 once it is there; a put that doesn't fail leaves it. The
+/// mark is a number that no put changes.
 pub trait Sink {
     ghost written: { Self → Option (List ℕ) };
 

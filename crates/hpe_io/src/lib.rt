@@ -7,11 +7,19 @@
 
 mod device;
 mod feed;
+mod intake;
+mod mem_shelf;
 mod mem_sink;
 mod mem_source;
+mod os_shelf;
+mod shelf;
 mod system;
 
 pub use device::{Failed, NoMemory, Sink, Source};
+pub use intake::{Intake, IntakeFault};
+pub use mem_shelf::MemShelf;
 pub use mem_sink::MemSink;
 pub use mem_source::{MemSource, SureSource};
+pub use os_shelf::OsShelf;
+pub use shelf::{Shelf, ShelfFault};
 pub use system::{OsSink, OsSource};

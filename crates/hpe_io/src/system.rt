@@ -12,19 +12,19 @@ const INTERRUPTIONS: u32 = 1_000;
 
 /// The interruptions that a take or a put still tries again.
 #[derive(Drop)]
-struct Patience {
+pub(crate) struct Patience {
     left: u32,
 }
 
 impl Patience {
-    fn new() -> Patience {
+    pub(crate) fn new() -> Patience {
         Patience {
             left: INTERRUPTIONS,
         }
     }
 
     /// Whether the call that ended with this error is to be tried again.
-    fn excuses(&mut self, error: &Error) -> bool
+    pub(crate) fn excuses(&mut self, error: &Error) -> bool
         ensures { IsTrue result → self.new.left < self.old.left }
     {
         if error.kind() != ErrorKind::Interrupted || self.left == 0 {

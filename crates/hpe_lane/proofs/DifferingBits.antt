@@ -9,6 +9,7 @@ use Rattle.std.proofs.lemmas.Bool.{cases_lt}
 use Rattle.std.proofs.lemmas.List.{get_or-append-add, length-drop}
 use Rattle.std.proofs.Math.Seq.{drop-cons}
 use Rattle.std.proofs.Math.ListN.{get_or-append}
+use Rattle.std.proofs.Math.IntN.{+ℤ_idl}
 use Rattle.hpe_base.specs.Sizes.{number_at, Within, AllWithin}
 use Rattle.hpe_lane.proofs.Sizes.{zero_within, wider, drop_within}
 use Rattle.hpe_lane.specs.Edges.{gray_from}
@@ -95,12 +96,9 @@ zero_times v q = omega arith
 one_times : (v q : ℕ) → q + v ≡ 1 * q + v
 one_times v q = omega arith
 
-zero_plus : (z : ℤ) → z ≡ pos 0 +ℤ z
-zero_plus z = omega (arith, ints)
-
 gray_front : (x : ℤ) (l : List ℤ) (v : ℕ) → v < 2 ^ length l → gray_from 0 (x ∷ l) v ≡ gray_from 0 l v
 gray_front x l v h =
-    ap (gray_from 0 (x ∷ l)) (zero_times v (2 ^ length l)) ∙ gray-cons 0 x l 0 v (omega arith) h ∙ sym (zero_plus (gray_from 0 l v))
+    ap (gray_from 0 (x ∷ l)) (zero_times v (2 ^ length l)) ∙ gray-cons 0 x l 0 v (omega arith) h ∙ +ℤ_idl (gray_from 0 l v)
 
 gray_back : (x : ℤ) (l : List ℤ) (j : ℕ) → j < 2 ^ length l → gray_from 0 (x ∷ l) (2 ^ length l + j) ≡ x +ℤ gray_from 0 l (2 ^ length l - 1 - j)
 gray_back x l j h =

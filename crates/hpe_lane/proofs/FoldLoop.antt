@@ -11,7 +11,8 @@ use Rattle.hpe_base.specs.Greatest.{IsSoft}
 use Rattle.hpe_lane.specs.Edges.{input_bit}
 use Rattle.hpe_lane.specs.Near.{Near}
 use Rattle.hpe_lane.proofs.Soft.{IsSoft-score}
-use Rattle.hpe_lane.proofs.Folding.{Folded, Folded-first, Folded-more, soft_start, near_now}
+use Rattle.hpe_lane.specs.Folds.{Folded}
+use Rattle.hpe_lane.proofs.Folding.{Folded-first, Folded-more, soft_start, near_now}
 
 pub first_turn : (m : ℕ) (start : List ℤ) → Folded m 0 (m - 0) start start
 first_turn m start = let e : m ≡ m - 0 = omega arith in subst (λ (k : ℕ). Folded m 0 k start start) e (Folded-first m start)
@@ -87,7 +88,7 @@ module _ (m i size : ℕ) (start now : List ℤ) (lt : i < m) (counts : size ≡
       same_scores : (n h : ℕ) (xs ys : List ℤ) (z : ℤ) → ((v : ℕ) → v < n → number_at xs v ≡ number_at ys v) → IsSoft (λ (v : ℕ). v < n) (λ v. v / h) (number_at xs) z → IsSoft (λ (v : ℕ). v < n) (λ v. v / h) (number_at ys) z
       same_scores n h xs ys z e g = IsSoft-score (λ v p. sym (e v p)) g
 
-  pub turn_soft : (out : List ℤ) (z : ℤ) → length out ≡ m
+  pub turn_soft : (out : List ℤ) (z : ℤ) → i < length out
       → ((j : ℕ) → j < i → IsSoft (λ (v : ℕ). v < 2 ^ m) (input_bit m j 0) (number_at start) (number_at out j))
       → IsSoft (λ (v : ℕ). v < length (take size now)) (λ v. v / (length (take size now) / 2)) (number_at (take size now)) z
       → (j : ℕ) → j < i + 1 → IsSoft (λ (v : ℕ). v < 2 ^ m) (input_bit m j 0) (number_at start) (number_at (set out i z) j)
@@ -97,5 +98,5 @@ module _ (m i size : ℕ) (start now : List ℤ) (lt : i < m) (counts : size ≡
       subst (IsSoft (λ (v : ℕ). v < 2 ^ m) (input_bit m j 0) (number_at start)) (sym (get_or-set_other out i j z (pos 0) ne)) (before j p))
       (λ (p : i ≤ j). let same : i ≡ j = omega arith in
       subst (λ (n : ℕ). IsSoft (λ (v : ℕ). v < 2 ^ m) (input_bit m n 0) (number_at start) (number_at (set out i z) n)) same
-      (subst (IsSoft (λ (v : ℕ). v < 2 ^ m) (input_bit m i 0) (number_at start)) (sym (get_or-set_same out i z (pos 0) (omega arith))) (soft_part z here)))
+      (subst (IsSoft (λ (v : ℕ). v < 2 ^ m) (input_bit m i 0) (number_at start)) (sym (get_or-set_same out i z (pos 0) all)) (soft_part z here)))
       (cases_lt j i)

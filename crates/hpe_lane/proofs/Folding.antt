@@ -17,6 +17,7 @@ use Rattle.hpe_base.specs.Trellis.{IsEdge}
 use Rattle.hpe_base.proofs.Greatest.{max_left, max_right, max_cases, le_trans}
 use Rattle.hpe_lane.specs.Edges.{input_bit}
 use Rattle.hpe_lane.specs.Near.{Near}
+use Rattle.hpe_lane.specs.Folds.{SameBits, Folded}
 
 -- ---- input bits of a place and of its mirror image
 
@@ -110,16 +111,6 @@ first_input k w h =
     ∙ half_number (w / 2 ^ k) (below_times w 2 (2 ^ k) (pow_pos k) (let two : 2 ^ suc k ≡ 2 ^ k + 2 ^ k = two-pow-succ k in omega arith))
 
 -- ---- folding
-
--- the input bits from i on of place v of m bits are those of place w of k bits
-abbrev SameBits : ℕ → ℕ → ℕ → ℕ → ℕ → Type 0
-SameBits m i k v w = (j : ℕ) → j < k → input_bit m (i + j) 0 v ≡ input_bit k j 0 w
-
--- a list `start` of 2 ^ m scores that is folded i times to 2 ^ k of them: each is the greatest of the scores at the
--- places with the input bits of its place
-pub record Folded (m i k : ℕ) (start now : List ℤ) : Type 0 where
-  pub from : (w : ℕ) → w < 2 ^ k → (v : ℕ) × ((v < 2 ^ m) × ((number_at start v ≡ number_at now w) × SameBits m i k v w))
-  pub into : (v : ℕ) → v < 2 ^ m → (w : ℕ) × ((w < 2 ^ k) × ((number_at start v ≤ℤ number_at now w) × SameBits m i k v w))
 
 le_refl : (z : ℤ) → z ≤ℤ z
 le_refl z = omega (arith, ints)
@@ -348,3 +339,30 @@ module _ (m : ℕ) (score : ℕ × ℕ → ℤ) (xs : List ℤ)
   pub soft_edge : (i : ℕ) (z : ℤ) → i < m → IsSoft (λ (v : ℕ). v < 2 ^ m) (input_bit m i 0) (number_at xs) z
       → IsSoft (IsEdge (2 ^ m) 2) (λ (e : ℕ × ℕ). input_bit m i e.0 e.1) score z
   soft_edge i z li g = record { one = g.one; zero = g.zero; with_one = greatest_edge i 1 g.one li g.with_one; with_zero = greatest_edge i 0 g.zero li g.with_zero; value = g.value }
+
+-- a soft value of the folded list is one of the list that it was folded from
+greatest_from : (m i k : ℕ) (start now : List ℤ) → Folded m i k start now → (j b : ℕ) (z : ℤ) → j < k → IsGreatest (λ (w : ℕ). (w < 2 ^ k) × (input_bit k j 0 w ≡ b)) (number_at now) z
+    → IsGreatest (λ (v : ℕ). (v < 2 ^ m) × (input_bit m (i + j) 0 v ≡ b)) (number_at start) z
+greatest_from m i k start now f j b z lj g =
+    let at = f.from g.reached.0 g.reached.1.0.0 in
+    record {
+      reached = (at.0, ((at.1.0, at.1.1.1 j lj ∙ g.reached.1.0.1), at.1.1.0 ∙ g.reached.1.1));
+      bound = λ v p. let w = f.into v p.0 in le_trans _ _ _ w.1.1.0 (g.bound w.0 (w.1.0, sym (w.1.1.1 j lj) ∙ p.1));
+    }
+
+pub soft_from : (m i k : ℕ) (start now : List ℤ) → Folded m i k start now → (j : ℕ) (z : ℤ) → j < k → IsSoft (λ (w : ℕ). w < 2 ^ k) (input_bit k j 0) (number_at now) z
+    → IsSoft (λ (v : ℕ). v < 2 ^ m) (input_bit m (i + j) 0) (number_at start) z
+soft_from m i k start now f j z lj g = record {
+  one = g.one;
+  zero = g.zero;
+  with_one = greatest_from m i k start now f j 1 g.one lj g.with_one;
+  with_zero = greatest_from m i k start now f j 0 g.zero lj g.with_zero;
+  value = g.value;
+}
+
+pub near_from : (m i k : ℕ) (start now : List ℤ) (most : ℕ) → Folded m i k start now → Near most (2 ^ m) start → Near most (2 ^ k) now
+near_from m i k start now most so_far near v w h l =
+    let f = so_far.from v h in
+    let g = so_far.from w l in
+    subst (λ (z : ℤ). z ≤ℤ (number_at now w +ℤ pos most)) f.1.1.0
+    (subst (λ (z : ℤ). number_at start f.0 ≤ℤ (z +ℤ pos most)) g.1.1.0 (near f.0 g.0 f.1.0 g.1.0))

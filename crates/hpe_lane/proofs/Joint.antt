@@ -1,7 +1,7 @@
 -- The list that joins the edges of both states.
 use Rattle.std.proofs.Common.{◌≡◌, ℕ, zero, suc, ◌+◌, ◌-◌, ◌%◌, ◌^◌, ◌<◌, ◌≤◌, ⊎_elim, sym, ◌∙◌, ap, ap₂, subst, arith, ℤ, pos, ◌+ℤ◌, ◌≤ℤ◌, List, [], ◌∷◌}
 use Rattle.std.specs.Int.{int_max}
-use Rattle.std.proofs.Math.Nat.{two-pow-succ}
+use Rattle.std.proofs.Math.Nat.{two-pow-succ, mod-lt}
 use Rattle.std.proofs.lemmas.Int.{ints}
 use Rattle.hpe_base.specs.Sizes.{number_at, Within, AllWithin}
 use Rattle.hpe_base.specs.Greatest.{IsGreatest, IsSoft}
@@ -21,9 +21,6 @@ in_fours (suc (suc k)) h =
 last_turned : (m v : ℕ) → 1 ≤ m → v < 2 ^ m → (2 ^ m - 1 - v) % 2 ≡ 1 - v % 2
 last_turned zero v h below = absurd (omega arith)
 last_turned (suc k) v h below = let a : 2 ^ suc k ≡ 2 ^ k + 2 ^ k = two-pow-succ k in omega arith
-
-low_bit : (v : ℕ) → v % 2 < 2
-low_bit v = omega arith
 
 around_first : (f b e : ℤ) → (f +ℤ b) +ℤ e ≡ f +ℤ (e +ℤ b)
 around_first f b e = omega (arith, ints)
@@ -45,8 +42,8 @@ module _ (m : ℕ) (some : 1 ≤ m) (fore from0 from1 back around0 around1 joint
   joint_is v h =
       joins v h
       ∙ ap₂ (λ (x y : ℤ). int_max x y)
-      (ap (λ (x : ℤ). x +ℤ number_at from0 v) (first (v % 2) (low_bit v)) ∙ around_first (number_at fore 0) (number_at back (v % 2)) (number_at from0 v))
-      (ap (λ (x : ℤ). x +ℤ number_at from1 (2 ^ m - 1 - v)) (second (v % 2) (low_bit v))
+      (ap (λ (x : ℤ). x +ℤ number_at from0 v) (first (v % 2) (mod-lt v (omega arith))) ∙ around_first (number_at fore 0) (number_at back (v % 2)) (number_at from0 v))
+      (ap (λ (x : ℤ). x +ℤ number_at from1 (2 ^ m - 1 - v)) (second (v % 2) (mod-lt v (omega arith)))
       ∙ ap (λ (k : ℕ). (number_at fore 1 +ℤ number_at back k) +ℤ number_at from1 (2 ^ m - 1 - v)) (sym (last_turned m v some h))
       ∙ around_first (number_at fore 1) (number_at back ((2 ^ m - 1 - v) % 2)) (number_at from1 (2 ^ m - 1 - v)))
 
@@ -62,11 +59,11 @@ module _ (m : ℕ) (some : 1 ≤ m) (fore from0 from1 back around0 around1 joint
       ⊎_elim
       (λ e. subst (λ (x : ℤ). x ≤ℤ (number_at joint w +ℤ pos 1200294894)) (sym (joint_is v h ∙ e))
       (more_apart _ _ _ 1200294894
-      (close_sum (number_at fore 0) (number_at from0 v) (number_at back (v % 2)) (number_at from0 w) (number_at back (w % 2)) (f0 v) (bw (v % 2) (low_bit v)) (f0 w) (bw (w % 2) (low_bit w)))
+      (close_sum (number_at fore 0) (number_at from0 v) (number_at back (v % 2)) (number_at from0 w) (number_at back (w % 2)) (f0 v) (bw (v % 2) (mod-lt v (omega arith))) (f0 w) (bw (w % 2) (mod-lt w (omega arith))))
       (subst (λ (x : ℤ). score (0, w) ≤ℤ x) top (max_left (score (0, w)) (score (1, b))))))
       (λ e. subst (λ (x : ℤ). x ≤ℤ (number_at joint w +ℤ pos 1200294894)) (sym (joint_is v h ∙ e))
       (more_apart _ _ _ 1200294894
-      (close_sum (number_at fore 1) (number_at from1 a) (number_at back (a % 2)) (number_at from1 b) (number_at back (b % 2)) (f1 a) (bw (a % 2) (low_bit a)) (f1 b) (bw (b % 2) (low_bit b)))
+      (close_sum (number_at fore 1) (number_at from1 a) (number_at back (a % 2)) (number_at from1 b) (number_at back (b % 2)) (f1 a) (bw (a % 2) (mod-lt a (omega arith))) (f1 b) (bw (b % 2) (mod-lt b (omega arith))))
       (subst (λ (x : ℤ). score (1, b) ≤ℤ x) top (max_right (score (0, w)) (score (1, b))))))
       (max_cases (score (0, v)) (score (1, a)))
 

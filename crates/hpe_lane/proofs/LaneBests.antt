@@ -1,5 +1,5 @@
 -- The greatest scores by parity, found in lanes.
-use Rattle.std.proofs.Common.{◌≡◌, ℕ, zero, suc, ◌+◌, ◌-◌, ◌*◌, ◌/◌, ◌%◌, ◌^◌, ◌<◌, ◌≤◌, ◌⊎◌, inl, inr, ⊎_elim, sym, ◌∙◌, ap, ap₂, subst, refl, arith, ℤ, negsuc, ◌≤ℤ◌, List, bit_and, add-zero, take, drop, pos, get_or, length, to_z, of_z, w32}
+use Rattle.std.proofs.Common.{◌≡◌, ℕ, zero, suc, ◌+◌, ◌-◌, ◌*◌, ◌/◌, ◌%◌, ◌^◌, ◌<◌, ◌≤◌, ◌⊎◌, inl, inr, ⊎_elim, sym, ◌∙◌, ap, ap₂, subst, refl, arith, ℤ, negsuc, ◌≤ℤ◌, List, bit_and, add-zero, take, drop, pos, get_or, to_z, of_z, w32}
 use Rattle.std.proofs.lemmas.List.{get_or-take, get_or-drop}
 use Rattle.std.specs.Prelude.{count_ones, if◌then◌else◌, ◌==◌}
 use Rattle.std.specs.Int.{int_max}
@@ -8,6 +8,7 @@ use Rattle.std.specs.Int.Bits.{and_zero_l, and_le_l}
 use Rattle.std.proofs.lemmas.Bool.{cases_lt}
 use Rattle.std.proofs.lemmas.Int.{ints, clamps}
 use Rattle.std.proofs.lemmas.Nat.{and_block, and_comm}
+use Rattle.std.proofs.Math.Nat.{mod-lt}
 use Rattle.hpe_base.specs.Sizes.{number_at}
 use Rattle.hpe_base.specs.Greatest.{IsGreatest}
 use Rattle.hpe_base.proofs.Greatest.{IsGreatestBelow, IsGreatestBelow-take, max_left, max_right, max_cases, le_trans}
@@ -117,15 +118,12 @@ block_value : (xs : List ℤ) (v i : ℕ) → i < 8 → number_at (take (v + 8 -
 block_value xs v i h = let e : i < v + 8 - v = omega arith in get_or-take (v + 8 - v) (drop v xs) i (pos 0) e ∙ get_or-drop v xs i (pos 0)
 
 -- the lanes that a block raises
-pub lanes-raised : (mask p j : ℕ) (xs old new : List ℤ) → length old ≡ 8 → parity mask (j * 8) ≡ p → ((i : ℕ) → i < 8 → IsBest (InLane mask p i j) (number_at xs) (number_at old i))
-    → ((i : ℕ) → i < length old → number_at new i ≡ int_max (number_at old i) (number_at (take (j * 8 + 8 - j * 8) (drop (j * 8) xs)) i))
+pub lanes-raised : (mask p j : ℕ) (xs old new : List ℤ) → parity mask (j * 8) ≡ p → ((i : ℕ) → i < 8 → IsBest (InLane mask p i j) (number_at xs) (number_at old i))
+    → ((i : ℕ) → i < 8 → number_at new i ≡ int_max (number_at old i) (number_at (take (j * 8 + 8 - j * 8) (drop (j * 8) xs)) i))
     → (i : ℕ) → i < 8 → IsBest (InLane mask p i (j + 1)) (number_at xs) (number_at new i)
-lanes-raised mask p j xs old new long e before raised i h =
-    subst (IsBest (InLane mask p i (j + 1)) (number_at xs)) (sym (raised i (omega arith) ∙ ap (λ (z : ℤ). int_max (number_at old i) z) (block_value xs (j * 8) i h)))
+lanes-raised mask p j xs old new e before raised i h =
+    subst (IsBest (InLane mask p i (j + 1)) (number_at xs)) (sym (raised i h ∙ ap (λ (z : ℤ). int_max (number_at old i) z) (block_value xs (j * 8) i h)))
     (lane-take mask p i j (number_at xs) (number_at old i) h e (before i h))
-
-bit_low : (n : ℕ) → n % 2 < 2
-bit_low n = omega arith
 
 other_parity : (b p q r : ℕ) → b < 2 → q < 2 → r ≡ (p + q) % 2 → p ≡ (b + q) % 2 → r ≡ b
 other_parity b p q r h k e f = omega arith
@@ -144,7 +142,7 @@ module _ (mask b j : ℕ) (f : ℕ → ℤ) (same other : List ℤ) (low : b < 2
   pub best-of-lanes : (z : ℤ) → IsGreatest (λ (i : ℕ). i < 8) (lane_of same other mask) z → IsBest (λ (v : ℕ). (v < j * 8) × (parity mask v ≡ b)) f z
   best-of-lanes z g =
       let i : ℕ = g.reached.0 in
-      let at = picked i (parity mask i) g.reached.1.0 (bit_low (count_ones (bit_and i mask))) in
+      let at = picked i (parity mask i) g.reached.1.0 (mod-lt (count_ones (bit_and i mask)) (omega arith)) in
       record {
         reached = ⊎_elim
             (λ e. inl (sym g.reached.1.1 ∙ e))
@@ -153,7 +151,7 @@ module _ (mask b j : ℕ) (f : ℕ → ℤ) (same other : List ℤ) (low : b < 2
               (
                 (
                   r.1.0.0,
-                  other_parity b (parity mask (r.0 / 8 * 8)) (parity mask i) (parity mask r.0) low (bit_low (count_ones (bit_and i mask)))
+                  other_parity b (parity mask (r.0 / 8 * 8)) (parity mask i) (parity mask r.0) low (mod-lt (count_ones (bit_and i mask)) (omega arith))
                       (parity_split r.0 mask ∙ ap (λ (n : ℕ). (parity mask (r.0 / 8 * 8) + parity mask n) % 2) r.1.0.1.0) r.1.0.1.1,
                 ),
                 r.1.1 ∙ g.reached.1.1,
@@ -162,9 +160,9 @@ module _ (mask b j : ℕ) (f : ℕ → ℤ) (same other : List ℤ) (low : b < 2
             at.reached;
         bound = λ v q.
             let lane : v % 8 < 8 = omega arith in
-            let own_lane = picked (v % 8) (parity mask (v % 8)) lane (bit_low (count_ones (bit_and (v % 8) mask))) in
+            let own_lane = picked (v % 8) (parity mask (v % 8)) lane (mod-lt (count_ones (bit_and (v % 8) mask)) (omega arith)) in
             le_trans _ _ _
-            (own_lane.bound v (q.0, (refl, own_parity b (parity mask (v / 8 * 8)) (parity mask (v % 8)) (parity mask v) (bit_low (count_ones (bit_and (v / 8 * 8) mask))) (bit_low (count_ones (bit_and (v % 8) mask))) (parity_split v mask) q.1)))
+            (own_lane.bound v (q.0, (refl, own_parity b (parity mask (v / 8 * 8)) (parity mask (v % 8)) (parity mask v) (mod-lt (count_ones (bit_and (v / 8 * 8) mask)) (omega arith)) (mod-lt (count_ones (bit_and (v % 8) mask)) (omega arith)) (parity_split v mask) q.1)))
             (g.bound (v % 8) lane);
       }
 
@@ -188,7 +186,7 @@ pub lane-odd : (mask i : ℕ) (same other : List ℤ) (old new : ℤ) → i < 8 
     → IsGreatestBelow i (λ (v : ℕ). v < 8) (lane_of same other mask) old → IsGreatestBelow (i + 1) (λ (v : ℕ). v < 8) (lane_of same other mask) new
 lane-odd mask i same other old new low e is g =
     subst (IsGreatestBelow (i + 1) (λ (v : ℕ). v < 8) (lane_of same other mask))
-    (ap (λ (z : ℤ). int_max old z) (lane_is_other (parity mask i) (number_at same i) (number_at other i) (bit_low (count_ones (bit_and i mask))) e) ∙ sym is) (IsGreatestBelow-take low g)
+    (ap (λ (z : ℤ). int_max old z) (lane_is_other (parity mask i) (number_at same i) (number_at other i) (mod-lt (count_ones (bit_and i mask)) (omega arith)) e) ∙ sym is) (IsGreatestBelow-take low g)
 
 -- all whole blocks
 pub whole_blocks : (mask b j n : ℕ) (f : ℕ → ℤ) (z : ℤ) → j ≤ n / 8 → n / 8 ≤ j → IsBest (λ (v : ℕ). (v < j * 8) × (parity mask v ≡ b)) f z → IsBest (λ (v : ℕ). (v < n / 8 * 8) × (parity mask v ≡ b)) f z

@@ -10,3 +10,9 @@ pub mod Folding
 pub mod FoldLoop
 pub mod Joint
 pub mod LaneBests
+pub mod OneLane
+pub mod Vectors
+pub mod Blocks
+pub mod EndBests
+pub mod Eights
+pub mod WindowEnds

@@ -1,5 +1,5 @@
 -- Sums of the outer kernels fit, and mean what they say.
-use Rattle.std.proofs.Common.{◌≡◌, ℕ, zero, suc, ◌+◌, ◌<◌, ◌≤◌, sym, ◌∙◌, ap, ap₂, subst, refl, arith, rules, ℤ, pos, ◌+ℤ◌, ◌-ℤ◌, ◌≤ℤ◌, List, [], ◌∷◌, w32, to_z, of_z, FitsSigned}
+use Rattle.std.proofs.Common.{◌≡◌, ℕ, zero, suc, ◌+◌, ◌<◌, sym, ◌∙◌, ap, ap₂, subst, refl, arith, rules, ℤ, pos, ◌+ℤ◌, ◌-ℤ◌, ◌≤ℤ◌, List, [], ◌∷◌, w32, to_z, of_z, FitsSigned}
 use Rattle.std.specs.Int.{int_max}
 use Rattle.std.proofs.lemmas.Int.{ints, clamps}
 use Rattle.hpe_base.specs.Sizes.{number_at, Within, AllWithin}
@@ -154,6 +154,10 @@ best_is f g low high r hf hg el eh e =
 gap_within : (x y : ℤ) → x ≤ℤ (y +ℤ pos 1200098298) → y ≤ℤ (x +ℤ pos 1200098298) → Within 1300000000 (x -ℤ y)
 gap_within x y h k = (omega (arith, ints), omega (arith, ints))
 
+-- so have two greatest sums
+pub best_gap : (f g h : ℕ → ℤ) → ((p : ℕ) → p < 4 → Within 600049149 (g p)) → ((p : ℕ) → p < 4 → Within 600049149 (h p)) → Within 1300000000 (best_sum f g -ℤ best_sum f h)
+best_gap f g h hg hh = gap_within (best_sum f g) (best_sum f h) (best_shifted f g h hg hh) (best_shifted f h g hh hg)
+
 module _ (f g h : ℕ → ℤ) (hf : (p : ℕ) → p < 4 → Within 600000000 (f p)) (hg : (p : ℕ) → p < 4 → Within 600049149 (g p)) (hh : (p : ℕ) → p < 4 → Within 600049149 (h p))
     (r s : ℤ) (er : r ≡ best_sum f g) (es : s ≡ best_sum f h) where
   gap : Within 1300000000 (best_sum f g -ℤ best_sum f h)
@@ -196,6 +200,18 @@ soft_value fore a b g0 g1 k d h hf ha hb e1 e0 ed =
     let s : d ≡ best_sum f up -ℤ best_sum f down = ed ∙ ap₂ (λ (x y : ℤ). x -ℤ y) (best_same f (number_at g1) up e1) (best_same f (number_at g0) down e0) in
     let w : Within 1300000000 (best_sum f up -ℤ best_sum f down) = gap f up down hf wu wd (best_sum f up) (best_sum f down) refl refl in
     class_soft f (chosen_after a b) k (kept_z d) h (ap kept_z s ∙ clean (best_sum f up -ℤ best_sum f down) w)
+
+-- and fits as it is
+pub soft_place : (fore a b g0 g1 : List ℤ) (k : ℕ) (d : ℤ) → k < 4
+    → AreWithin 600000000 fore → AreWithin 600049149 a → AreWithin 600049149 b
+    → ((p : ℕ) → p < 4 → number_at g1 p ≡ chosen_after a b p (pick k 1 p)) → ((p : ℕ) → p < 4 → number_at g0 p ≡ chosen_after a b p (pick k 0 p))
+    → d ≡ best_sum (number_at fore) (number_at g1) -ℤ best_sum (number_at fore) (number_at g0)
+    → IsSoft (IsEdge 2 4) (λ (e : ℕ × ℕ). soft_bit k e.0 e.1) (λ e. number_at fore e.0 +ℤ chosen_after a b e.0 e.1) d
+soft_place fore a b g0 g1 k d h hf ha hb e1 e0 ed =
+    let w1 : (p : ℕ) → p < 4 → Within 600049149 (number_at g1 p) = λ p l. subst (Within 600049149) (sym (e1 p l)) (chosen_within a b (pick k 1 p) p (ha p l) (hb p l)) in
+    let w0 : (p : ℕ) → p < 4 → Within 600049149 (number_at g0 p) = λ p l. subst (Within 600049149) (sym (e0 p l)) (chosen_within a b (pick k 0 p) p (ha p l) (hb p l)) in
+    let w : Within 1300000000 d = subst (Within 1300000000) (sym ed) (best_gap (number_at fore) (number_at g1) (number_at g0) w1 w0) in
+    subst (IsSoft (IsEdge 2 4) (λ (e : ℕ × ℕ). soft_bit k e.0 e.1) (λ e. number_at fore e.0 +ℤ chosen_after a b e.0 e.1)) (clean d w) (soft_value fore a b g0 g1 k d h hf ha hb e1 e0 ed)
 
 -- a list that takes each place from another
 abbrev pub mixed : List ℤ → List ℤ → List ℤ → List ℤ → List ℤ

@@ -1,7 +1,7 @@
 -- Sizes of numbers.
 use Rattle.std.proofs.Common.{ℕ, zero, suc, ◌≤◌, arith, ℤ, pos, List, [], ◌∷◌, drop}
 use Rattle.std.proofs.lemmas.Int.{ints}
-use Rattle.hpe_base.specs.Sizes.{number_at, Within, AllWithin}
+use Rattle.hpe_base.specs.Sizes.{Within, AllWithin}
 
 -- nothing is within every size
 pub zero_within : (m : ℕ) → Within m (pos 0)

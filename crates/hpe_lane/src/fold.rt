@@ -1,18 +1,94 @@
+//! The soft values of a stage's input bits, from one score for each symbol.
+//!
+//! A list of 2^m scores is folded m times to half its length. Each fold tells the two halves apart, which gives one soft
+//! value, and keeps at each place the greater of it and its mirror image, since the input bits that are left are the
+//! same there. The last eight scores are one vector, which gives the last three soft values at once.
 ghost use Rattle.std.specs.Prelude.{◌≡◌, ℕ, ◌-◌, ◌/◌, ◌%◌, ◌<◌, ◌≤◌, ◌^◌, length};
 ghost use Rattle.std.specs.Int.{int_max};
 ghost use Rattle.hpe_base.specs.Sizes.{number_at};
 ghost use Rattle.hpe_base.specs.Greatest.{IsGreatest, IsSoft};
 ghost use Rattle.hpe_lane.specs.Edges.{input_bit};
+ghost use Rattle.hpe_lane.specs.Folds.{Folded};
 ghost use Rattle.hpe_lane.specs.Near.{Near};
+
+use crate::ends::best_ends;
+use crate::lanes::{first_eight, raise_eight, softs_of_eight};
+use crate::plain;
+use std::marker::PhantomData;
 
 /// The soft values of the input bits of a list's places.
 ///
 /// The first input bit of a place is its first bit, so it tells the halves of the list apart. The other input bits are
 /// those of the place, or of its mirror image, in a list of half the length, to which the list is folded.
+#[inline(always)]
 pub fn fold_soft(scores: &mut [i32], out: &mut [i32])
     requires scores { length scores.old ≡ 2 ^ length out.old }
     requires near { Near 1200294894 (length scores.old) scores.old }
     ensures { (i : ℕ) → i < length out.old → IsSoft (λ (v : ℕ). v < 2 ^ length out.old) (input_bit (length out.old) i 0) (number_at scores.old) (number_at out.new i) }
+{
+    let m = out.len();
+    if m < 3 {
+        fold_turns(m, scores, out);
+    } else if m > 6 {
+        Last::fold(scores, out);
+    } else {
+        Then::<Then<Then<Last>>>::fold(scores, out);
+    }
+}
+
+/// The soft values of a list, with its first turns written out one after the other.
+///
+/// Where each turn has its own code, the compiler knows how long its lists are, and keeps short ones in vectors. From 128
+/// scores on a loop is faster.
+trait Turns {
+    fn fold(scores: &mut [i32], out: &mut [i32])
+        requires some { 3 ≤ length out.old }
+        requires scores { length scores.old ≡ 2 ^ length out.old }
+        requires near { Near 1200294894 (length scores.old) scores.old }
+        ensures { (i : ℕ) → i < length out.old → IsSoft (λ (v : ℕ). v < 2 ^ length out.old) (input_bit (length out.old) i 0) (number_at scores.old) (number_at out.new i) };
+}
+
+/// No turn written out.
+struct Last;
+
+/// One turn written out before those of another.
+struct Then<T> {
+    of: PhantomData<T>,
+}
+
+impl Turns for Last {
+    #[inline(always)]
+    fn fold(scores: &mut [i32], out: &mut [i32]) {
+        let m = out.len();
+        let (first, last) = out.split_at_mut(m - 3);
+        fold_turns(m, scores, first);
+        fold_eight(scores, last);
+    }
+}
+
+impl<T: Turns> Turns for Then<T> {
+    #[inline(always)]
+    fn fold(scores: &mut [i32], out: &mut [i32]) {
+        let m = out.len();
+        if m == 3 {
+            fold_eight(scores, out);
+            return;
+        }
+        let half = scores.len() / 2;
+        let (first, rest) = out.split_at_mut(1);
+        fold_turns(m, scores, first);
+        T::fold(&mut scores[..half], rest);
+    }
+}
+
+/// As many of the soft values as `out` has places, of a list of 2^m scores.
+#[inline(always)]
+fn fold_turns(m: usize, scores: &mut [i32], out: &mut [i32])
+    requires few { length out.old ≤ m }
+    requires scores { length scores.old ≡ 2 ^ m }
+    requires near { Near 1200294894 (length scores.old) scores.old }
+    ensures folded { Folded m (length out.old) (m - length out.old) scores.old scores.new }
+    ensures soft { (i : ℕ) → i < length out.old → IsSoft (λ (v : ℕ). v < 2 ^ m) (input_bit m i 0) (number_at scores.old) (number_at out.new i) }
 {
     let mut size = scores.len();
     for (i, place) in out.iter_mut().enumerate() {
@@ -21,8 +97,23 @@ pub fn fold_soft(scores: &mut [i32], out: &mut [i32])
     }
 }
 
+/// The soft values of the three input bits of eight places.
+#[inline(always)]
+fn fold_eight(scores: &[i32], out: &mut [i32])
+    requires eight { 8 ≤ length scores.now }
+    requires three { length out.old ≡ 3 }
+    requires near { Near 1200294894 8 scores.now }
+    ensures { (i : ℕ) → i < 3 → IsSoft (λ (v : ℕ). v < 8) (input_bit 3 i 0) (number_at scores.now) (number_at out.new i) }
+{
+    let ends = softs_of_eight(first_eight(scores));
+    out[0] = ends[0];
+    out[1] = ends[1];
+    out[2] = ends[2];
+}
+
 /// Tells the halves apart, and leaves at each place of the first the greater of its score and that of its mirror image
 /// in the second.
+#[inline(always)]
 fn fold(scores: &mut [i32]) -> i32
     requires some { 2 ≤ length scores.old }
     requires even { length scores.old % 2 ≡ 0 }
@@ -38,24 +129,30 @@ fn fold(scores: &mut [i32]) -> i32
 }
 
 /// Raises each score to that of its mirror image.
+#[inline(always)]
 fn raise(low: &mut [i32], high: &[i32])
     requires same { length high.now ≡ length low.old }
     ensures { (v : ℕ) → v < length low.old → number_at low.new v ≡ int_max (number_at low.old v) (number_at high.now (length high.now - 1 - v)) }
 {
     let n = high.len();
-    for (v, place) in low.iter_mut().enumerate() {
-        *place = (*place).max(high[n - 1 - v]);
+    for k in 0..n / 8 {
+        let v = 8 * k;
+        raise_eight(&mut low[v..v + 8], &high[n - 8 - v..n - v]);
+    }
+    for v in n / 8 * 8..n {
+        low[v] = low[v].max(high[n - 1 - v]);
     }
 }
 
 /// The greatest of all scores.
+#[inline(always)]
 fn greatest(scores: &[i32]) -> i32
     requires some { 1 ≤ length scores.now }
     ensures { IsGreatest (λ (v : ℕ). v < length scores.now) (number_at scores.now) result }
 {
-    let mut best = scores[0];
-    for score in scores {
-        best = best.max(*score);
+    if scores.len() < 8 {
+        return plain::greatest(scores);
     }
-    best
+    let best = best_ends(scores);
+    best[0].max(best[1])
 }

@@ -1,8 +1,17 @@
+//! What the symbols of a stage of the inner code score, by the numbers of their bits.
+//!
+//! Symbol v of m bits leaves the accumulator; the bits that entered it are the differences of neighbouring bits of v. So a
+//! number counts where two neighbours differ, as in a Gray code: the scores of a list twice as long are those of the
+//! list, and the same read backwards with one more number.
 ghost use Rattle.std.specs.Prelude.{◌≡◌, ℕ, ◌+◌, ◌-◌, ◌*◌, ◌<◌, ◌≤◌, ◌^◌, pos, ◌+ℤ◌, ◌≤ℤ◌, length, slice_index};
 ghost use Rattle.hpe_base.specs.Sizes.{number_at, AllWithin};
 ghost use Rattle.hpe_lane.specs.Edges.{gray_from};
 
+use crate::lanes::{add_eight, add_turned_eight, gray_eight, mirror_eight};
+use crate::plain;
+
 /// At place `v`, the sum of those `l[i]` at which bit `i` of `v` differs from the bit before it.
+#[inline(always)]
 pub fn gray_scores(l: &[i32], out: &mut [i32])
     requires few { (2 ≤ length l.now) × (length l.now ≤ 8) }
     requires size { length out.old ≡ 2 ^ length l.now }
@@ -12,7 +21,13 @@ pub fn gray_scores(l: &[i32], out: &mut [i32])
     let m = l.len();
     out[0] = 0;
     let mut half = 1;
-    for k in 0..m {
+    let mut done = 0;
+    if m >= 3 {
+        gray_eight(&l[m - 3..], &mut out[..8]);
+        half = 8;
+        done = 3;
+    }
+    for k in done..m {
         let (low, high) = out.split_at_mut(half);
         mirror(low, &mut high[..half], l[m - 1 - k]);
         half *= 2;
@@ -20,6 +35,7 @@ pub fn gray_scores(l: &[i32], out: &mut [i32])
 }
 
 /// Writes `high[j] = x + low[n - 1 - j]`.
+#[inline(always)]
 fn mirror(low: &[i32], high: &mut [i32], x: i32)
     requires same { length low.now ≡ length high.old }
     requires low { AllWithin (7 * 16383) low.now }
@@ -27,12 +43,16 @@ fn mirror(low: &[i32], high: &mut [i32], x: i32)
     ensures { (j : ℕ) → j < length low.now → number_at high.new j ≡ x +ℤ number_at low.now (length low.now - 1 - j) }
 {
     let n = low.len();
-    for (j, place) in high.iter_mut().enumerate() {
-        *place = x + low[n - 1 - j];
+    for k in 0..n / 8 {
+        let j = 8 * k;
+        mirror_eight(&low[n - 8 - j..n - j], &mut high[j..j + 8], x);
     }
+    let whole = n / 8 * 8;
+    plain::mirror(&low[..n - whole], &mut high[whole..], x);
 }
 
 /// From each state, what each symbol scores: its count, and each `l[i]` whose input bit is 1.
+#[inline(always)]
 pub fn edge_scores(counts: &[u16], l: &[i32], from0: &mut [i32], from1: &mut [i32])
     requires few { (2 ≤ length l.now) × (length l.now ≤ 8) }
     requires counts { length counts.now ≡ 2 ^ length l.now }
@@ -49,6 +69,7 @@ pub fn edge_scores(counts: &[u16], l: &[i32], from0: &mut [i32], from1: &mut [i3
 }
 
 /// Writes `sums[v] = counts[v] + scores[n - 1 - v]`.
+#[inline(always)]
 fn add_mirrored(counts: &[u16], scores: &[i32], sums: &mut [i32])
     requires same { length counts.now ≡ length scores.now }
     requires same_sums { length sums.old ≡ length scores.now }
@@ -57,19 +78,33 @@ fn add_mirrored(counts: &[u16], scores: &[i32], sums: &mut [i32])
     ensures { (v : ℕ) → v < length scores.now → number_at sums.new v ≡ pos (slice_index counts.now v) +ℤ number_at scores.now (length scores.now - 1 - v) }
 {
     let n = scores.len();
-    for (v, place) in sums.iter_mut().enumerate() {
-        *place = counts[v] as i32 + scores[n - 1 - v];
+    for k in 0..n / 8 {
+        let v = 8 * k;
+        add_turned_eight(
+            &counts[v..v + 8],
+            &scores[n - 8 - v..n - v],
+            &mut sums[v..v + 8],
+        );
+    }
+    for v in n / 8 * 8..n {
+        sums[v] = counts[v] as i32 + scores[n - 1 - v];
     }
 }
 
 /// Adds the count at each place.
+#[inline(always)]
 fn add_counts(counts: &[u16], scores: &mut [i32])
     requires same { length counts.now ≡ length scores.old }
     requires most { (i : ℕ) → slice_index counts.now i ≤ 16383 }
     requires scores { AllWithin (8 * 16383) scores.old }
     ensures { (v : ℕ) → v < length counts.now → number_at scores.new v ≡ pos (slice_index counts.now v) +ℤ number_at scores.old v }
 {
-    for (v, place) in scores.iter_mut().enumerate() {
-        *place += counts[v] as i32;
+    let n = scores.len();
+    for k in 0..n / 8 {
+        let v = 8 * k;
+        add_eight(&counts[v..v + 8], &mut scores[v..v + 8]);
+    }
+    for v in n / 8 * 8..n {
+        scores[v] += counts[v] as i32;
     }
 }

@@ -1,40 +1,43 @@
-// A stage of the outer trellis, whose state 2a + b stands for the last input a and the input b before it. Two of the
-// three outputs of an edge are the same, so that its eight edges have four scores.
-ghost use Rattle.std.specs.Prelude.{◌≡◌, ℕ, ◌+◌, ◌*◌, ◌/◌, ◌%◌, ◌<◌, ◌^◌, ◌+ℤ◌, ◌-ℤ◌};
+//! One stage of the outer trellis.
+//!
+//! State 2a + b stands for the last input a and the input b before it. Input u, 0 or 1, leads to state 2u + a, and gives
+//! the three outputs of the convolutional code, of which the last two are the same: so the eight edges have four scores.
+//! The sums of states and edges are one vector of eight, whose halves are compared.
+ghost use Rattle.std.specs.Prelude.{◌≡◌, ℕ, ◌+◌, ◌*◌, ◌/◌, ◌%◌, ◌<◌, ◌^◌, ◌+ℤ◌};
 ghost use Rattle.std.specs.Int.{int_max};
 ghost use Rattle.hpe_base.specs.Sizes.{number_at, Within, AllWithin};
 ghost use Rattle.hpe_base.specs.Greatest.{IsGreatest, IsSoft};
 ghost use Rattle.hpe_base.specs.Trellis.{IsEdge};
 ghost use Rattle.hpe_lane.specs.OuterStage.{outer_next, edge_sum, soft_bit};
-ghost use Rattle.hpe_lane.specs.OuterSums.{best_sum, chosen_after};
+ghost use Rattle.hpe_lane.specs.OuterSums.{chosen_after};
 
+use crate::lanes::{differences_four, forward_eight};
 use hpe_base::Steps;
 use std::sync::ledger::Ledger;
 
-/// The greater of `a + x` and `b + y`.
-fn greater_sum(a: i32, x: i32, b: i32, y: i32) -> i32
-    requires a { Within 600000000 a }
-    requires x { Within 600049149 x }
-    requires b { Within 600000000 b }
-    requires y { Within 600049149 y }
-    ensures { result ≡ int_max (a +ℤ x) (b +ℤ y) }
+/// The scores of the edges that lead to the states: first of those that leave states 0 and 2, then of those that leave
+/// states 1 and 3.
+#[inline(always)]
+fn edges_to(l: [i32; 3]) -> [i32; 8]
+    requires l { AllWithin 16383 l }
+    ensures even { (q : ℕ) → q < 4 → number_at result q ≡ edge_sum l (2 * (q % 2)) (q / 2) }
+    ensures odd { (q : ℕ) → q < 4 → number_at result (4 + q) ≡ edge_sum l (2 * (q % 2) + 1) (q / 2) }
+    ensures small { (q : ℕ) → q < 8 → Within 49149 (number_at result q) }
 {
-    (a + x).max(b + y)
+    let second = l[1] + l[2];
+    let all = l[0] + second;
+    [0, second, all, l[0], all, l[0], 0, second]
 }
 
 /// For each state, the greater score of the two edges that lead to it.
+#[inline(always)]
 fn forward_row(row: [i32; 4], l: [i32; 3]) -> [i32; 4]
     requires row { (q : ℕ) → q < 4 → Within 600000000 (number_at row q) }
     requires l { AllWithin 16383 l }
     ensures { (q : ℕ) → q < 4 → number_at result q ≡ int_max (number_at row (2 * (q % 2)) +ℤ edge_sum l (2 * (q % 2)) (q / 2)) (number_at row (2 * (q % 2) + 1) +ℤ edge_sum l (2 * (q % 2) + 1) (q / 2)) }
 {
-    let second = l[1] + l[2];
-    let all = l[0] + second;
-    let none = greater_sum(row[0], 0, row[1], all);
-    let before = greater_sum(row[2], second, row[3], l[0]);
-    let last = greater_sum(row[0], all, row[1], 0);
-    let both = greater_sum(row[2], l[0], row[3], second);
-    [none, before, last, both]
+    let edges = edges_to(l);
+    forward_eight(row, edges)
 }
 
 /// What the states score after a stage: for each, the greatest of what a state scores before the stage and its edge to
@@ -42,6 +45,7 @@ fn forward_row(row: [i32; 4], l: [i32; 3]) -> [i32; 4]
 ///
 /// `row` is what they score before it, each at most 600,000,000 in size, and `l` the a-priori numbers of the stage's
 /// three outputs, 0 for one that isn't kept.
+#[inline(always)]
 pub fn outer_forward<L: Ledger>(row: [i32; 4], l: [i32; 3], steps: &mut Steps<L>) -> [i32; 4]
     requires row { (q : ℕ) → q < 4 → Within 600000000 (number_at row q) }
     requires l { AllWithin 16383 l }
@@ -55,7 +59,8 @@ pub fn outer_forward<L: Ledger>(row: [i32; 4], l: [i32; 3], steps: &mut Steps<L>
 }
 
 /// What each state scores from the stage on with input 0, and what with input 1.
-fn afters(l: [i32; 3], back: [i32; 4]) -> ([i32; 4], [i32; 4])
+#[inline(always)]
+pub(crate) fn afters(l: [i32; 3], back: [i32; 4]) -> ([i32; 4], [i32; 4])
     requires back { (q : ℕ) → q < 4 → Within 600000000 (number_at back q) }
     requires l { AllWithin 16383 l }
     ensures zero { (p : ℕ) → p < 4 → number_at result.0 p ≡ edge_sum l p 0 +ℤ number_at back (outer_next p 0) }
@@ -69,29 +74,9 @@ fn afters(l: [i32; 3], back: [i32; 4]) -> ([i32; 4], [i32; 4])
     )
 }
 
-/// The greatest of the four sums.
-fn greatest_sum(fore: [i32; 4], after: [i32; 4]) -> i32
-    requires fore { (q : ℕ) → q < 4 → Within 600000000 (number_at fore q) }
-    requires after { (q : ℕ) → q < 4 → Within 600049149 (number_at after q) }
-    ensures { result ≡ best_sum (number_at fore) (number_at after) }
-{
-    let low = greater_sum(fore[0], after[0], fore[1], after[1]);
-    let high = greater_sum(fore[2], after[2], fore[3], after[3]);
-    low.max(high)
-}
-
-/// The greatest of the sums with `one` less the greatest of those with `zero`.
-fn difference(fore: [i32; 4], zero: [i32; 4], one: [i32; 4]) -> i32
-    requires fore { (q : ℕ) → q < 4 → Within 600000000 (number_at fore q) }
-    requires zero { (q : ℕ) → q < 4 → Within 600049149 (number_at zero q) }
-    requires one { (q : ℕ) → q < 4 → Within 600049149 (number_at one q) }
-    ensures { result ≡ best_sum (number_at fore) (number_at one) -ℤ best_sum (number_at fore) (number_at zero) }
-{
-    greatest_sum(fore, one) - greatest_sum(fore, zero)
-}
-
 /// The greater of two numbers, place by place.
-fn greater_of(zero: [i32; 4], one: [i32; 4]) -> [i32; 4]
+#[inline(always)]
+pub(crate) fn greater_of(zero: [i32; 4], one: [i32; 4]) -> [i32; 4]
     requires zero { (q : ℕ) → q < 4 → Within 600049149 (number_at zero q) }
     requires one { (q : ℕ) → q < 4 → Within 600049149 (number_at one q) }
     ensures { (p : ℕ) → p < 4 → number_at result p ≡ int_max (number_at zero p) (number_at one p) }
@@ -106,31 +91,22 @@ fn greater_of(zero: [i32; 4], one: [i32; 4]) -> [i32; 4]
 
 /// The soft values of the input and of the three outputs, where a state scores `zero` from the stage on with input 0
 /// and `one` with input 1.
+#[inline(always)]
 fn soft_values(fore: [i32; 4], zero: [i32; 4], one: [i32; 4]) -> [i32; 4]
     requires fore { (q : ℕ) → q < 4 → Within 600000000 (number_at fore q) }
     requires zero { (q : ℕ) → q < 4 → Within 600049149 (number_at zero q) }
     requires one { (q : ℕ) → q < 4 → Within 600049149 (number_at one q) }
     ensures { (k : ℕ) → k < 4 → IsSoft (IsEdge 2 4) (λ (e : ℕ × ℕ). soft_bit k e.0 e.1) (λ e. number_at fore e.0 +ℤ chosen_after zero one e.0 e.1) (number_at result k) }
 {
-    let input = difference(fore, zero, one);
     // the first output isn't the input where b is 1, the second and third where one of a and b is
-    let first = difference(
-        fore,
-        [zero[0], one[1], zero[2], one[3]],
-        [one[0], zero[1], one[2], zero[3]],
-    );
-    let second = difference(
-        fore,
-        [zero[0], one[1], one[2], zero[3]],
-        [one[0], zero[1], zero[2], one[3]],
-    );
-    [input, first, second, second]
+    differences_four(fore, zero, one)
 }
 
 /// What the states score from a stage on, and the soft values of the stage's input and of its three outputs.
 ///
 /// `fore` is what the states score before the stage, `back` what they score after it, each at most 600,000,000 in size,
 /// and `l` the a-priori numbers of the three outputs, 0 for one that isn't kept.
+#[inline(always)]
 pub fn outer_back<L: Ledger>(
     fore: [i32; 4],
     l: [i32; 3],

@@ -1,9 +1,14 @@
+//! The greatest scores by the parity of some bits of the symbol.
+//!
+//! The parity of a place is that of its block of eight and that of its lane together. So whole blocks are compared, and
+//! the lanes are told apart at the end.
 ghost use Rattle.std.specs.Prelude.{◌≡◌, ℕ, ◌*◌, ◌/◌, ◌%◌, ◌<◌, ◌≤◌, length, bit_and, count_ones};
-ghost use Rattle.std.specs.Int.{int_max};
 ghost use Rattle.hpe_base.specs.Sizes.{number_at};
 ghost use Rattle.hpe_base.specs.Greatest.{IsGreatest};
 ghost use Rattle.hpe_lane.specs.Edges.{HasParity};
 ghost use Rattle.hpe_lane.specs.Lanes.{IsBest, lane_of};
+
+use crate::lanes::greater_eight;
 
 /// So many scores are compared side by side.
 const LANES: usize = 8;
@@ -32,9 +37,6 @@ pub fn best_by_parity(scores: &[i32], mask: u32) -> [i32; 2]
 }
 
 /// The same for the whole blocks of the list.
-///
-/// The parity of a place is that of its block's first place and that of its lane together. So a block is compared as a
-/// whole, and the lanes are told apart at the end.
 fn best_of_blocks(scores: &[i32], mask: usize) -> [i32; 2]
     ensures even { IsBest (λ (v : ℕ). (v < length scores.now / 8 * 8) × (count_ones (bit_and v mask) % 2 ≡ 0)) (number_at scores.now) (number_at result 0) }
     ensures odd { IsBest (λ (v : ℕ). (v < length scores.now / 8 * 8) × (count_ones (bit_and v mask) % 2 ≡ 1)) (number_at scores.now) (number_at result 1) }
@@ -47,22 +49,12 @@ fn best_of_blocks(scores: &[i32], mask: usize) -> [i32; 2]
     for j in 0..scores.len() / LANES {
         let v = j * LANES;
         if (v & mask).count_ones() % 2 == 0 {
-            raise_lanes(&mut even, &scores[v..v + LANES]);
+            greater_eight(&mut even, &scores[v..v + LANES]);
         } else {
-            raise_lanes(&mut odd, &scores[v..v + LANES]);
+            greater_eight(&mut odd, &scores[v..v + LANES]);
         }
     }
     best_of_lanes(&even, &odd, mask)
-}
-
-/// Raises each score to that of the block.
-fn raise_lanes(best: &mut [i32], block: &[i32])
-    requires same { length block.now ≡ length best.old }
-    ensures { (i : ℕ) → i < length best.old → number_at best.new i ≡ int_max (number_at best.old i) (number_at block.now i) }
-{
-    for (i, place) in best.iter_mut().enumerate() {
-        *place = (*place).max(block[i]);
-    }
 }
 
 /// The greatest scores of the lanes, where lanes of odd parity hold those of odd blocks for even and the other way

@@ -1,16 +1,25 @@
+//! One stage of the inner trellis.
+//!
+//! Its states are the last bit of the accumulator, 0 and 1. Its inputs are the symbols v of m bits, each of which leads to
+//! the state that is its last bit. An edge scores the count at its pulse position, and the number of each input bit that
+//! is 1: `from0` and `from1` have the scores of the edges that leave state 0 and state 1.
+//!
+//! All edges to a state end in the same bit, so a step forward needs only the greatest score at even places and that at
+//! odd ones, of each list. A step back gives a soft value for each input bit too, from one list of joint scores.
 ghost use Rattle.std.specs.Prelude.{◌≡◌, ℕ, ◌+◌, ◌%◌, ◌<◌, ◌≤◌, ◌^◌, ◌+ℤ◌, length};
 ghost use Rattle.hpe_base.specs.Sizes.{number_at, Within, AllWithin};
 ghost use Rattle.hpe_base.specs.Greatest.{IsGreatest, IsSoft};
 ghost use Rattle.hpe_base.specs.Trellis.{IsEdge};
 ghost use Rattle.hpe_lane.specs.Edges.{edge_of, input_bit};
 
+use crate::ends::best_ends;
 use crate::fold::fold_soft;
 use crate::join::join;
-use crate::parity::best_by_parity;
 use hpe_base::Steps;
 use std::sync::ledger::Ledger;
 
 /// At place `b`, the greatest of `row[s] + from_s[v]` over both `s` and all `v` that end in `b`.
+#[inline(always)]
 pub fn step_forward<L: Ledger>(
     row: [i32; 2],
     from0: &[i32],
@@ -27,14 +36,15 @@ pub fn step_forward<L: Ledger>(
     ensures step { steps.new ≡ steps.old + 1 }
 {
     steps.tick();
-    let first = best_by_parity(from0, 1);
-    let second = best_by_parity(from1, 1);
+    let first = best_ends(from0);
+    let second = best_ends(from1);
     let even = (row[0] + first[0]).max(row[1] + second[0]);
     let odd = (row[0] + first[1]).max(row[1] + second[1]);
     [even, odd]
 }
 
 /// The backward row before the stage, and the soft values of its input bits.
+#[inline(always)]
 pub fn step_back<L: Ledger>(
     fore: [i32; 2],
     from0: &[i32],
@@ -64,13 +74,14 @@ pub fn step_back<L: Ledger>(
 }
 
 /// The greatest score of a state's edges with what comes after them.
+#[inline(always)]
 fn best_after(from: &[i32], back: [i32; 2]) -> i32
     requires some { 2 ≤ length from.now }
     requires edges { AllWithin 147447 from.now }
     requires back { (s : ℕ) → s < 2 → Within 600000000 (number_at back s) }
     ensures { IsGreatest (λ (v : ℕ). v < length from.now) (λ v. number_at from.now v +ℤ number_at back (v % 2)) result }
 {
-    let best = best_by_parity(from, 1);
+    let best = best_ends(from);
     (back[0] + best[0]).max(back[1] + best[1])
 }
 
@@ -78,6 +89,7 @@ fn best_after(from: &[i32], back: [i32; 2]) -> i32
 ///
 /// The edges of state 1 are read backwards: where all bits of a symbol are turned, so is its first input bit, and no
 /// other. With the other state the edge has the same input bits, so one list holds the better of the two.
+#[inline(always)]
 fn write_soft(
     fore: [i32; 2],
     from0: &[i32],

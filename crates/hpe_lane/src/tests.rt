@@ -1,2 +1,3 @@
 mod inner;
 mod outer;
+mod plain;

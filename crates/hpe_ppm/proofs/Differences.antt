@@ -6,13 +6,11 @@ use Rattle.hpe_base.specs.Lists.{tabulate}
 use Rattle.hpe_base.specs.Bits.{AreBits, xor}
 use Rattle.hpe_base.specs.Accumulator.{accumulated}
 use Rattle.hpe_base.proofs.Tabulated.{length-tabulate, get_or-tabulate, tabulate_from_places}
+use Rattle.hpe_base.proofs.Shapes.{length-accumulated, get_or-accumulated}
 
 -- each bit added to the bit before it, modulo 2
 abbrev pub differences : List ℕ → List ℕ
 differences bits = tabulate (length bits) (λ j. xor (get_or (0 ∷ bits) j 0) (get_or bits j 0))
-
-pub length-accumulated : (bits : List ℕ) → length (accumulated bits) ≡ length bits
-length-accumulated bits = length-tabulate (length bits) (λ j. sum (take (j + 1) bits) % 2)
 
 pub length-differences : (bits : List ℕ) → length (differences bits) ≡ length bits
 length-differences bits = length-tabulate (length bits) (λ j. xor (get_or (0 ∷ bits) j 0) (get_or bits j 0))
@@ -27,14 +25,6 @@ are_bits-differences bits =
 
 sum_more : (xs : List ℕ) (i : ℕ) → i < length xs → sum (take (i + 1) xs) ≡ sum (take i xs) + get_or xs i 0
 sum_more xs i h = sum_by_more (λ x. x) xs i 0 h
-
-get_or-accumulated : (bits : List ℕ) (j : ℕ) → j < length bits → get_or (accumulated bits) j 0 ≡ sum (take (j + 1) bits) % 2
-get_or-accumulated bits j h = get_or-tabulate (length bits) (λ j. sum (take (j + 1) bits) % 2) j 0 h
-
-pub are_bits-accumulated : (bits : List ℕ) → AreBits (accumulated bits)
-are_bits-accumulated bits =
-    All-from_get_or (λ b. b < 2) (accumulated bits) 0
-    (λ k b. rw (get_or-accumulated bits k (omega (arith, length-accumulated bits))) (omega arith))
 
 -- the sum before place j stands one place before it
 before_place : (bits : List ℕ) (j : ℕ) → j < length bits → get_or (0 ∷ accumulated bits) j 0 ≡ sum (take j bits) % 2

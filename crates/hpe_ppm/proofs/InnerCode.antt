@@ -5,10 +5,11 @@ use Rattle.hpe_base.specs.Accumulator.{accumulated}
 use Rattle.hpe_base.specs.Mapper.{symbols_of}
 use Rattle.hpe_base.specs.Parameters.{symbol_bits}
 use Rattle.hpe_base.specs.declared.profile.Order.{Order}
+use Rattle.hpe_base.proofs.Shapes.{length-accumulated, are_bits-accumulated}
 use Rattle.hpe_ppm.specs.MappedBits.{mapped_bits}
 use Rattle.hpe_ppm.specs.Laws.{InnerCodeIsOneToOne, InnerCodeIsOnto}
 use Rattle.hpe_ppm.proofs.Mapping.{length-mapped_bits, are_bits-mapped_bits, mapped_bits-symbols_of, symbols_of-mapped_bits}
-use Rattle.hpe_ppm.proofs.Differences.{differences, length-accumulated, length-differences, are_bits-accumulated, are_bits-differences, differences-accumulated, accumulated-differences}
+use Rattle.hpe_ppm.proofs.Differences.{differences, length-differences, are_bits-differences, differences-accumulated, accumulated-differences}
 
 -- the bits again, from their symbols
 bits_again : (order : Order) (n : ℕ) (bits : List ℕ) → AreBits bits → length bits ≡ n * symbol_bits order → differences (mapped_bits order (symbols_of order (accumulated bits))) ≡ bits

@@ -1,25 +1,12 @@
 //! The pulse-position mapper and its inverse.
-ghost use Rattle.std.specs.Prelude.{◌≡◌, ◌≤◌, ◌<◌, ◌*◌, ◌^◌, length, All};
+ghost use Rattle.std.specs.Prelude.{◌≡◌, ◌<◌, ◌*◌, length, All};
 ghost use Rattle.hpe_base.specs.Bits.{AreBits, bits_of, number_of};
 ghost use Rattle.hpe_base.specs.Mapper.{symbols_of};
 ghost use Rattle.hpe_base.specs.Parameters.{symbol_bits, positions};
 ghost use Rattle.hpe_ppm.specs.MappedBits.{mapped_bits};
 
 use hpe_base::Order;
-
-/// The number that at most eight bits write.
-fn number_of_bits(bits: &[u8]) -> u8
-    requires bits { AreBits bits.now }
-    requires size { length bits.now ≤ 8 }
-    ensures value { result ≡ number_of bits.now }
-    ensures below { result < 2 ^ length bits.now }
-{
-    let mut number = 0;
-    for bit in bits {
-        number = number * 2 + *bit;
-    }
-    number
-}
+use hpe_base::bits::{number_of, write_bits};
 
 /// Maps bits to symbols: each group of as many bits as a symbol of the order carries, 2 to 8, is the number of one
 /// symbol, first bit most significant. `out` has an octet for each group, and no bit is left over.
@@ -33,18 +20,7 @@ pub fn symbols_of(order: Order, bits: &[u8], out: &mut [u8])
 {
     let size = order.bits() as usize;
     for (s, symbol) in out.iter_mut().enumerate() {
-        *symbol = number_of_bits(&bits[s * size..s * size + size]);
-    }
-}
-
-/// Writes the low bits of a number, as many as there is room for and at most eight, most significant first.
-fn write_bits(number: u8, bits: &mut [u8])
-    requires { length bits.old ≤ 8 }
-    ensures { bits.new ≡ bits_of (length bits.old) number }
-{
-    let size = bits.len();
-    for (i, bit) in bits.iter_mut().enumerate() {
-        *bit = (number >> (size - 1 - i)) & 1;
+        *symbol = number_of(&bits[s * size..s * size + size]);
     }
 }
 
@@ -61,6 +37,6 @@ pub fn bits_of(order: Order, symbols: &[u8], out: &mut [u8])
 {
     let size = order.bits() as usize;
     for (s, symbol) in symbols.iter().enumerate() {
-        write_bits(*symbol, &mut out[s * size..s * size + size]);
+        write_bits(*symbol as u32, &mut out[s * size..s * size + size]);
     }
 }

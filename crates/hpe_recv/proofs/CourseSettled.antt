@@ -1,5 +1,5 @@
 -- The verdicts that are settled as counts come symbol by symbol.
-use Rattle.std.proofs.Common.{rules, ◌≡◌, ◌↔◌, refl, Bool, true, false, IsTrue, if◌then◌else◌, Some, None, is_some, ◌+◌, ◌-◌, ◌*◌, ◌/◌, ◌%◌, ◌<◌, ◌≤◌, ◌++◌, ℕ, List, [], ◌∷◌, length, take, drop, ap, ap₂, sym, subst, ◌∙◌, arith, inl, inr}
+use Rattle.std.proofs.Common.{rules, ◌≡◌, ◌↔◌, refl, Bool, true, false, IsTrue, if◌then◌else◌, ◌+◌, ◌-◌, ◌*◌, ◌/◌, ◌%◌, ◌<◌, ◌≤◌, ◌++◌, ℕ, List, [], ◌∷◌, length, take, drop, ap, ap₂, sym, subst, ◌∙◌, arith, inl, inr}
 use Rattle.std.specs.declared.option.Option.{Option}
 use Rattle.std.proofs.lemmas.Nat.{div-mul-add, div-add-mod', mod_below, mod-mul-add, mul-le}
 use Rattle.std.proofs.lemmas.Bool.{cases_lt}
@@ -7,12 +7,12 @@ use Rattle.std.proofs.lemmas.List.{nil_from_length, append-nil, length-append, l
 use Rattle.hpe_base.specs.Parameters.{Parameters, IsValid, symbol_slots, sending_slots, positions, period_symbols, codeword_symbols, interleaver_depth}
 use Rattle.hpe_base.specs.ChannelInterleaver.{deinterleaved_channel}
 use Rattle.hpe_base.specs.ReceivedWords.{symbol_sums}
-use Rattle.hpe_base.specs.Rounds.{Verdict}
+use Rattle.hpe_base.specs.Rounds.{Verdict, verdict_of}
 use Rattle.hpe_base.proofs.Tabulated.{length-tabulate}
 use Rattle.hpe_base.proofs.ParameterLemmas.{codeword_symbols-ge, positions-lt}
-use Rattle.hpe_turn.specs.declared.verdict.Verdict as answer
-use Rattle.hpe_recv.specs.Wording.{Wording, HasDecoded, completed, verdict_with}
-use Rattle.hpe_recv.specs.Delivering.{Delivering, HasDelivered, PutsPart}
+use Rattle.hpe_recv.specs.Wording.{Wording, HasGathered}
+use Rattle.hpe_recv.specs.Batching.{Batching, HasBatched, waiting, late_count}
+use Rattle.hpe_recv.specs.Delivering.{PutsPart}
 use Rattle.hpe_recv.specs.Rows.{symbols_in, rows_in, rows_of, verdicts_in, whole_rows, settled}
 use Rattle.hpe_recv.specs.Following.{Following, HasSettled, HasFollowed}
 use Rattle.hpe_recv.proofs.CourseRows.{AreSymbols, symbols_are, rows_are, rows_of-marker, rows_of-row}
@@ -82,7 +82,7 @@ periods p seen = symbols_in p seen / period_symbols p
 pub some_slots : (p : Parameters) → IsValid p → 0 < symbol_slots p
 some_slots p v =
     let narrow : positions p.order < sending_slots p.order = positions-lt p.order in
-    let up : 1 * 1 ≤ p.repeat * sending_slots p.order = mul-le 1 1 p.repeat (sending_slots p.order) v.repeat_low (omega arith) in
+    let up : 1 * 1 ≤ p.repeat * sending_slots p.order = mul-le 1 1 p.repeat (sending_slots p.order) v.range.repeat_low (omega arith) in
     omega arith
 
 -- what a course has followed
@@ -103,26 +103,34 @@ pub length-rows : (p : Parameters) (q r : ℕ) (seen : List ℕ) → AreSymbols 
 unfolding rows_of
 length-rows p q r seen a = length-tabulate _ _ ∙ ap (rows_in p) (symbols_are p q r seen a) ∙ rows_are p q r a.below
 
--- a symbol more, its word collected: the rows are those of the counts with it, and nothing more is settled
-pub collected : (old mid : Following) (seen slots : List ℕ) (f f' r r' : Option (List ℕ)) → HasFollowed old seen f f' r r' → length slots ≡ symbol_slots old.parameters → mid.parameters ≡ old.parameters
-    → (old.symbol < length old.parameters.marker → mid ≡ old)
-    → (length old.parameters.marker ≤ old.symbol → (rows : List (List ℕ)) (verdicts : List Verdict) (a a' b b' : Option (List ℕ)) → HasSettled old rows verdicts a a' b b'
-    → length (verdicts_in old.parameters (rows ++ symbol_sums old.parameters slots 0 ∷ [])) ≤ length verdicts + 1
-    → HasSettled mid (rows ++ symbol_sums old.parameters slots 0 ∷ []) verdicts a a' b b')
-    → HasSettled mid (rows_of old.parameters (seen ++ slots)) (settled old.parameters seen) f f' r r'
-collected old mid seen slots f f' r r' h one same marker row =
+-- a symbol of a marker more: the rows are those of the counts with it, and nothing more is settled
+pub collected_marker : (old : Following) (seen slots : List ℕ) (f f' r r' : Option (List ℕ)) → HasFollowed old seen f f' r r' → length slots ≡ symbol_slots old.parameters
+    → old.symbol < length old.parameters.marker → HasSettled old (rows_of old.parameters (seen ++ slots)) (settled old.parameters seen) f f' r r'
+collected_marker old seen slots f f' r r' h one early =
     let p : Parameters = old.parameters in
     let a : AreSymbols p (periods p seen) old.symbol seen = are_symbols old seen f f' r r' h in
-    elim (cases_lt old.symbol (length p.marker)) [
-      | inl early ↦
-          subst (λ (c : Following). HasSettled c (rows_of p (seen ++ slots)) (settled p seen) f f' r r') (sym (marker early))
-          (subst (λ (rows : List (List ℕ)). HasSettled old rows (settled p seen) f f' r r') (sym (rows_of-marker p (periods p seen) old.symbol seen slots a one early)) h.stands)
-      | inr late ↦
-          let long : length (rows_of p seen) ≡ periods p seen * codeword_symbols p.order + (old.symbol - length p.marker) = length-rows p (periods p seen) old.symbol seen a in
-          subst (λ (rows : List (List ℕ)). HasSettled mid rows (settled p seen) f f' r r') (sym (rows_of-row p (periods p seen) old.symbol seen slots a one late))
-          (row late (rows_of p seen) (settled p seen) f f' r r' h.stands
-          (one_more p (periods p seen) (old.symbol - length p.marker) (rows_of p seen) (symbol_sums p slots 0) long (omega (arith, a.below))))
-    ]
+    subst (λ (rows : List (List ℕ)). HasSettled old rows (settled p seen) f f' r r') (sym (rows_of-marker p (periods p seen) old.symbol seen slots a one early)) h.stands
+
+-- another symbol more
+pub row_more : (old : Following) (seen slots : List ℕ) (f f' r r' : Option (List ℕ)) → HasFollowed old seen f f' r r' → length slots ≡ symbol_slots old.parameters
+    → length old.parameters.marker ≤ old.symbol → rows_of old.parameters (seen ++ slots) ≡ rows_of old.parameters seen ++ symbol_sums old.parameters slots 0 ∷ []
+row_more old seen slots f f' r r' h one late =
+    let p : Parameters = old.parameters in
+    rows_of-row p (periods p seen) old.symbol seen slots (are_symbols old seen f f' r r' h) one late
+
+pub few_more : (old : Following) (seen slots : List ℕ) (f f' r r' : Option (List ℕ)) → HasFollowed old seen f f' r r' → length old.parameters.marker ≤ old.symbol
+    → length (verdicts_in old.parameters (rows_of old.parameters seen ++ symbol_sums old.parameters slots 0 ∷ [])) ≤ length (settled old.parameters seen) + 1
+few_more old seen slots f f' r r' h late =
+    let p : Parameters = old.parameters in
+    let a : AreSymbols p (periods p seen) old.symbol seen = are_symbols old seen f f' r r' h in
+    let long : length (rows_of p seen) ≡ periods p seen * codeword_symbols p.order + (old.symbol - length p.marker) = length-rows p (periods p seen) old.symbol seen a in
+    one_more p (periods p seen) (old.symbol - length p.marker) (rows_of p seen) (symbol_sums p slots 0) long (omega (arith, a.below))
+
+pub collected_row : (old mid : Following) (seen slots : List ℕ) (f f' r r' g g' t t' : Option (List ℕ)) → HasFollowed old seen f f' r r' → length slots ≡ symbol_slots old.parameters
+    → length old.parameters.marker ≤ old.symbol → HasSettled mid (rows_of old.parameters seen ++ symbol_sums old.parameters slots 0 ∷ []) (settled old.parameters seen) g g' t t'
+    → HasSettled mid (rows_of old.parameters (seen ++ slots)) (settled old.parameters seen) g g' t t'
+collected_row old mid seen slots f f' r r' g g' t t' h one late s =
+    subst (λ (rows : List (List ℕ)). HasSettled mid rows (settled old.parameters seen) g g' t t') (sym (row_more old seen slots f f' r r' h one late)) s
 
 -- the symbols of the counts with one more
 more_symbols : (p : Parameters) (q r : ℕ) (seen slots : List ℕ) → AreSymbols p q r seen → length slots ≡ symbol_slots p → length (seen ++ slots) ≡ (q * period_symbols p + r + 1) * symbol_slots p
@@ -178,19 +186,19 @@ followed c q seen f f' r r' v a s =
     }
 
 -- the course after a symbol within a period
-pub followed_within : (old new : Following) (seen slots : List ℕ) (f f' r r' : Option (List ℕ)) → HasFollowed old seen f f' r r' → length slots ≡ symbol_slots old.parameters
+pub followed_within : (old new : Following) (seen slots : List ℕ) (f f' g g' r r' t t' : Option (List ℕ)) → HasFollowed old seen f f' r r' → length slots ≡ symbol_slots old.parameters
     → new.parameters ≡ old.parameters → new.symbol ≡ old.symbol + 1 → old.symbol + 1 < period_symbols old.parameters
-    → HasSettled new (rows_of old.parameters (seen ++ slots)) (settled old.parameters seen) f f' r r' → HasFollowed new (seen ++ slots) f f' r r'
-followed_within old new seen slots f f' r r' h one ep es within s =
+    → HasSettled new (rows_of old.parameters (seen ++ slots)) (settled old.parameters seen) g g' t t' → HasFollowed new (seen ++ slots) g g' t t'
+followed_within old new seen slots f f' g g' r r' t t' h one ep es within s =
     let p : Parameters = old.parameters in
     let q : ℕ = periods p seen in
     let a : AreSymbols p q old.symbol seen = are_symbols old seen f f' r r' h in
     let next : AreSymbols p q (old.symbol + 1) (seen ++ slots) = next_symbols p q old.symbol seen slots a one within in
-    let all : HasSettled new (rows_of p (seen ++ slots)) (settled p (seen ++ slots)) f f' r r' =
-    subst (λ (vs : List Verdict). HasSettled new (rows_of p (seen ++ slots)) vs f f' r r') (sym (settled_same p q old.symbol seen slots a one within)) s in
-    followed new q (seen ++ slots) f f' r r' (subst IsValid (sym ep) h.valid)
+    let all : HasSettled new (rows_of p (seen ++ slots)) (settled p (seen ++ slots)) g g' t t' =
+    subst (λ (vs : List Verdict). HasSettled new (rows_of p (seen ++ slots)) vs g g' t t') (sym (settled_same p q old.symbol seen slots a one within)) s in
+    followed new q (seen ++ slots) g g' t t' (subst IsValid (sym ep) h.valid)
     (subst (λ (x : Parameters). AreSymbols x q new.symbol (seen ++ slots)) (sym ep) (subst (λ k. AreSymbols p q k (seen ++ slots)) (sym es) next))
-    (subst (λ (x : Parameters). HasSettled new (rows_of x (seen ++ slots)) (settled x (seen ++ slots)) f f' r r') (sym ep) all)
+    (subst (λ (x : Parameters). HasSettled new (rows_of x (seen ++ slots)) (settled x (seen ++ slots)) g g' t t') (sym ep) all)
 
 -- and after the last of one, once its word is settled
 pub followed_to_end : (old new : Following) (seen slots : List ℕ) (f f' g g' r r' t t' : Option (List ℕ)) → HasFollowed old seen f f' r r' → length slots ≡ symbol_slots old.parameters
@@ -229,7 +237,7 @@ advanced_profile old mid new ended a = ap (λ (c : Following). c.parameters) a.n
 pub advanced_settled : (old mid new : Following) (ended : Bool) (rows : List (List ℕ)) (verdicts : List Verdict) (f f' r r' : Option (List ℕ)) → Advanced old mid new ended
     → HasSettled mid rows verdicts f f' r r' → HasSettled new rows verdicts f f' r r'
 advanced_settled old mid new ended rows verdicts f f' r r' a h =
-    subst (λ (c : Following). HasSettled c rows verdicts f f' r r') (sym a.next) (record { decoded = h.decoded; pending = h.pending; delivered = h.delivered; outlet = h.outlet })
+    subst (λ (c : Following). HasSettled c rows verdicts f f' r r') (sym a.next) (record { gathered = h.gathered; batched = h.batched; batch = h.batch })
 
 same_period : (old mid : Following) → mid.parameters ≡ old.parameters → period_symbols mid.parameters ≡ period_symbols old.parameters
 same_period old mid e = ap (λ (p : Parameters). period_symbols p) e
@@ -247,70 +255,80 @@ within_period old mid new a below =
       ],
     )
 
--- the verdict on a word that is completed where none is pending
-pending_next : (p : Parameters) (rows rows' : List (List ℕ)) (verdicts : List Verdict) (before : Option answer.Verdict) (now : answer.Verdict) (b b' : List ℕ)
-    → verdicts_in p rows ≡ verdicts ++ completed before b → verdicts_in p rows' ≡ verdicts_in p rows ++ completed (Some now) b'
-    → length (verdicts_in p rows') ≤ length verdicts + 1 → verdicts_in p rows' ≡ verdicts ++ completed (Some now) b'
-pending_next p rows rows' verdicts None now b b' e h few = h ∙ ap (λ (vs : List Verdict). vs ++ completed (Some now) b') (e ∙ append-nil verdicts)
-pending_next p rows rows' verdicts (Some v) now b b' e h few =
-    let one : length (verdicts_in p rows) ≡ length verdicts + 1 = ap (λ (vs : List Verdict). length vs) e ∙ length-append verdicts (completed (Some v) b) in
-    let two : length (verdicts_in p rows') ≡ length (verdicts_in p rows) + 1 = ap (λ (vs : List Verdict). length vs) h ∙ length-append (verdicts_in p rows) (completed (Some now) b') in
-    absurd (omega arith)
+early : (late : Bool) → ◌≡◌ {A = ℕ} (if late then 1 else 0) 0 → late ≡ false
+early true e = absurd (omega arith)
+early false e = refl
 
--- a course with a row more: a word is completed
-pub word_completed : (old : Following) (words : Wording) (now : Option answer.Verdict) (rows : List (List ℕ)) (row sums : List ℕ) (verdicts : List Verdict) (f f' r r' : Option (List ℕ))
-    → HasSettled old rows verdicts f f' r r' → old.words.parameters ≡ old.parameters → row ≡ sums → HasDecoded words (rows ++ row ∷ [])
-    → verdicts_in old.words.parameters (rows ++ row ∷ []) ≡ verdicts_in old.words.parameters rows ++ completed now words.block
-    → length (verdicts_in old.parameters (rows ++ sums ∷ [])) ≤ length verdicts + 1 → is_some now ≡ true
-    → HasSettled (record old { words = words; pending = now }) (rows ++ sums ∷ []) verdicts f f' r r'
-word_completed old words None rows row sums verdicts f f' r r' h same e decoded next few some = absurd (search rules)
-word_completed old words (Some v) rows row sums verdicts f f' r r' h same e decoded next few some =
-    let all : verdicts_in old.parameters (rows ++ row ∷ []) ≡ verdicts_in old.parameters rows ++ completed (Some v) words.block =
-    subst (λ (p : Parameters). verdicts_in p (rows ++ row ∷ []) ≡ verdicts_in p rows ++ completed (Some v) words.block) same next in
-    subst (λ (x : List ℕ). HasSettled (record old { words = words; pending = Some v }) (rows ++ x ∷ []) verdicts f f' r r') e
+-- a word is completed only in a period in which none was completed before
+pub not_late : (b : Batching) (all all' verdicts : List Verdict) (v : Verdict) (f f' r r' : Option (List ℕ)) → HasBatched b all verdicts f f' r r'
+    → all' ≡ all ++ v ∷ [] → length all' ≤ length verdicts + 1 → (b.late ≡ false) × (all ≡ verdicts)
+not_late b all all' verdicts v f f' r r' h e few =
+    let w : List Verdict = waiting b in
+    let n : ℕ = length w - late_count b in
+    let one : length all' ≡ length all + 1 = ap (λ (vs : List Verdict). length vs) e ∙ length-append all (v ∷ []) in
+    let has : length all ≡ length h.put + length w = ap (λ (vs : List Verdict). length vs) h.all_are ∙ length-append h.put w in
+    let whole : length verdicts ≡ length h.put + length (take n w) = ap (λ (vs : List Verdict). length vs) h.whole_are ∙ length-append h.put (take n w) in
+    let less : length (take n w) ≡ n = length-take-le n w (omega arith) in
+    let none : late_count b ≡ 0 = (let s = h.some in omega arith) in (
+      early b.late none,
+      h.all_are ∙ ap (λ (l : List Verdict). h.put ++ l) (sym (take_all n w (omega arith))) ∙ sym h.whole_are,
+    )
+
+-- and so it was not late where a course takes a word that is whole
+pub late_not : (old : Following) (rows : List (List ℕ)) (row sums word : List ℕ) (verdicts : List Verdict) (f f' r r' : Option (List ℕ)) → HasSettled old rows verdicts f f' r r' → old.words.parameters ≡ old.parameters → row ≡ sums
+    → verdicts_in old.words.parameters (rows ++ row ∷ []) ≡ verdicts_in old.words.parameters rows ++ verdict_of old.words.parameters word ∷ []
+    → length (verdicts_in old.parameters (rows ++ sums ∷ [])) ≤ length verdicts + 1 → (old.batch.late ≡ false) × (verdicts_in old.parameters rows ≡ verdicts)
+late_not old rows row sums word verdicts f f' r r' h same e next few =
+    let v : Verdict = verdict_of old.parameters word in
+    let all : verdicts_in old.parameters (rows ++ row ∷ []) ≡ verdicts_in old.parameters rows ++ v ∷ [] =
+    subst (λ (p : Parameters). verdicts_in p (rows ++ row ∷ []) ≡ verdicts_in p rows ++ verdict_of p word ∷ []) same next in
+    let less : length (verdicts_in old.parameters (rows ++ row ∷ [])) ≤ length verdicts + 1 =
+    subst (λ (x : List ℕ). length (verdicts_in old.parameters (rows ++ x ∷ [])) ≤ length verdicts + 1) (sym e) few in
+    not_late old.batch (verdicts_in old.parameters rows) (verdicts_in old.parameters (rows ++ row ∷ [])) verdicts v f f' r r' h.batched all less
+
+-- a course with a row more, with which no word is whole
+pub none_completed : (old : Following) (words : Wording) (rows : List (List ℕ)) (row sums : List ℕ) (verdicts : List Verdict) (f f' r r' : Option (List ℕ))
+    → HasSettled old rows verdicts f f' r r' → old.words.parameters ≡ old.parameters → row ≡ sums → HasGathered words (rows ++ row ∷ [])
+    → verdicts_in old.words.parameters (rows ++ row ∷ []) ≡ verdicts_in old.words.parameters rows ++ []
+    → HasSettled (record old { words = words }) (rows ++ sums ∷ []) verdicts f f' r r'
+none_completed old words rows row sums verdicts f f' r r' h same e gathered next =
+    let all : verdicts_in old.parameters (rows ++ row ∷ []) ≡ verdicts_in old.parameters rows =
+    subst (λ (p : Parameters). verdicts_in p (rows ++ row ∷ []) ≡ verdicts_in p rows ++ []) same next ∙ append-nil (verdicts_in old.parameters rows) in
+    subst (λ (x : List ℕ). HasSettled (record old { words = words }) (rows ++ x ∷ []) verdicts f f' r r') e
     (record {
-      decoded = decoded;
-      pending = pending_next old.parameters rows (rows ++ row ∷ []) verdicts old.pending v old.words.block words.block h.pending all
-          (subst (λ (x : List ℕ). length (verdicts_in old.parameters (rows ++ x ∷ [])) ≤ length verdicts + 1) (sym e) few);
-      delivered = h.delivered;
-      outlet = h.outlet;
+      gathered = gathered;
+      batched = subst (λ (vs : List Verdict). HasBatched old.batch vs verdicts f f' r r') (sym all) h.batched;
+      batch = h.batch;
     })
 
--- or none is
-pub none_completed : (old : Following) (words : Wording) (now : Option answer.Verdict) (rows : List (List ℕ)) (row sums : List ℕ) (verdicts : List Verdict) (f f' r r' : Option (List ℕ))
-    → HasSettled old rows verdicts f f' r r' → old.words.parameters ≡ old.parameters → row ≡ sums → HasDecoded words (rows ++ row ∷ [])
-    → verdicts_in old.words.parameters (rows ++ row ∷ []) ≡ verdicts_in old.words.parameters rows ++ completed now words.block
-    → (now ≡ None → words.block ≡ old.words.block) → is_some now ≡ false
-    → HasSettled (record old { words = words; pending = old.pending }) (rows ++ sums ∷ []) verdicts f f' r r'
-none_completed old words (Some v) rows row sums verdicts f f' r r' h same e decoded next keep none = absurd (search rules)
-none_completed old words None rows row sums verdicts f f' r r' h same e decoded next keep none =
-    let all : verdicts_in old.parameters (rows ++ row ∷ []) ≡ verdicts_in old.parameters rows ++ [] =
-    subst (λ (p : Parameters). verdicts_in p (rows ++ row ∷ []) ≡ verdicts_in p rows ++ []) same next in
-    subst (λ (x : List ℕ). HasSettled (record old { words = words; pending = old.pending }) (rows ++ x ∷ []) verdicts f f' r r') e
+-- or one is: the batch has taken it
+pub word_completed : (old : Following) (words : Wording) (batch : Batching) (rows : List (List ℕ)) (row sums word : List ℕ) (verdicts : List Verdict) (f f' r r' g g' t t' : Option (List ℕ))
+    → HasSettled old rows verdicts f f' r r' → old.words.parameters ≡ old.parameters → row ≡ sums → HasGathered words (rows ++ row ∷ [])
+    → verdicts_in old.words.parameters (rows ++ row ∷ []) ≡ verdicts_in old.words.parameters rows ++ verdict_of old.words.parameters word ∷ []
+    → length (verdicts_in old.parameters (rows ++ sums ∷ [])) ≤ length verdicts + 1 → batch.crew.parameters ≡ old.batch.crew.parameters
+    → HasBatched batch (verdicts_in old.parameters rows ++ verdict_of old.batch.crew.parameters word ∷ []) (verdicts_in old.parameters rows) g g' t t'
+    → HasSettled (record old { words = words; batch = batch }) (rows ++ sums ∷ []) verdicts g g' t t'
+word_completed old words batch rows row sums word verdicts f f' r r' g g' t t' h same e gathered next few kept taken =
+    let v : Verdict = verdict_of old.parameters word in
+    let all : verdicts_in old.parameters (rows ++ row ∷ []) ≡ verdicts_in old.parameters rows ++ v ∷ [] =
+    subst (λ (p : Parameters). verdicts_in p (rows ++ row ∷ []) ≡ verdicts_in p rows ++ verdict_of p word ∷ []) same next in
+    let less : length (verdicts_in old.parameters (rows ++ row ∷ [])) ≤ length verdicts + 1 =
+    subst (λ (x : List ℕ). length (verdicts_in old.parameters (rows ++ x ∷ [])) ≤ length verdicts + 1) (sym e) few in
+    let now = not_late old.batch (verdicts_in old.parameters rows) (verdicts_in old.parameters (rows ++ row ∷ [])) verdicts v f f' r r' h.batched all less in
+    subst (λ (x : List ℕ). HasSettled (record old { words = words; batch = batch }) (rows ++ x ∷ []) verdicts g g' t t') e
     (record {
-      decoded = decoded;
-      pending = all ∙ append-nil (verdicts_in old.parameters rows) ∙ h.pending ∙ ap (λ (b : List ℕ). verdicts ++ completed old.pending b) (sym (keep refl));
-      delivered = h.delivered;
-      outlet = h.outlet;
+      gathered = gathered;
+      batched = subst (λ (vs : List Verdict). HasBatched batch vs verdicts g g' t t')
+          (ap (λ (p : Parameters). verdicts_in old.parameters rows ++ verdict_of p word ∷ []) h.batch ∙ sym all)
+          (subst (λ (vs : List Verdict). HasBatched batch (verdicts_in old.parameters rows ++ verdict_of old.batch.crew.parameters word ∷ []) vs g g' t t') now.1 taken);
+      batch = kept ∙ h.batch;
     })
 
--- the verdict that was pending is the last
-pub verdict_taken : (old : Following) (v : answer.Verdict) (b : List ℕ) (taken : Option answer.Verdict) (rows : List (List ℕ)) (verdicts : List Verdict) (f f' r r' : Option (List ℕ))
-    → HasSettled old rows verdicts f f' r r' → taken ≡ old.pending → taken ≡ Some v → b ≡ old.words.block → verdicts_in old.parameters rows ≡ verdicts ++ verdict_with v b ∷ []
-verdict_taken old v b taken rows verdicts f f' r r' h was some e =
-    h.pending ∙ ap (λ (o : Option answer.Verdict). verdicts ++ completed o old.words.block) (sym was ∙ some)
-    ∙ ap (λ (x : List ℕ). verdicts ++ verdict_with v x ∷ []) (sym e)
-
--- and delivered it is settled
-pub word_delivered : (old : Following) (none : Option answer.Verdict) (outlet : Delivering) (rows : List (List ℕ)) (verdicts all : List Verdict) (f f' g g' r r' t t' : Option (List ℕ))
-    → HasSettled old rows verdicts f f' r r' → none ≡ None → verdicts_in old.parameters rows ≡ all → outlet.scan.parameters ≡ old.outlet.scan.parameters → HasDelivered outlet all g g' t t'
-    → HasSettled (record old { pending = none; outlet = outlet }) rows (verdicts_in old.parameters rows) g g' t t'
-word_delivered old empty_pending outlet rows verdicts all f f' g g' r r' t t' h empty e same d = record {
-  decoded = h.decoded;
-  pending = sym (append-nil (verdicts_in old.parameters rows)) ∙ ap (λ (o : Option answer.Verdict). verdicts_in old.parameters rows ++ completed o old.words.block) (sym empty);
-  delivered = subst (λ (vs : List Verdict). HasDelivered outlet vs g g' t t') (sym e) d;
-  outlet = same ∙ h.outlet;
-}
+-- the end of a period settles all words
+pub batch_settled : (old : Following) (batch : Batching) (rows : List (List ℕ)) (verdicts : List Verdict) (f f' g g' r r' t t' : Option (List ℕ)) → HasSettled old rows verdicts f f' r r'
+    → batch.crew.parameters ≡ old.batch.crew.parameters → HasBatched batch (verdicts_in old.parameters rows) (verdicts_in old.parameters rows) g g' t t'
+    → HasSettled (record old { batch = batch }) rows (verdicts_in old.parameters rows) g g' t t'
+batch_settled old batch rows verdicts f f' g g' r r' t t' h same s = record { gathered = h.gathered; batched = s; batch = same ∙ h.batch }
 
 -- equal verdicts under equal parameters
 pub puts_same : (p q : Parameters) (vs ws : List Verdict) (f f' r r' : Option (List ℕ)) → p ≡ q → vs ≡ ws → PutsPart p vs f f' r r' → PutsPart q ws f f' r r'
@@ -330,9 +348,9 @@ no_words p =
     nil_from_length (verdicts_in p []) (length-verdicts p [] ∙ ap (λ n. n / codeword_symbols p.order) none ∙ div-mul-add 0 (codeword_symbols p.order) 0 (omega arith))
 
 -- a course before its first symbol
-pub followed_none : (c : Following) (f r : Option (List ℕ)) → IsValid c.parameters → c.symbol ≡ 0 → c.pending ≡ None → HasDecoded c.words [] → HasDelivered c.outlet [] f f r r
-    → c.outlet.scan.parameters ≡ c.parameters → HasFollowed c [] f f r r
-followed_none c f r v zero none decoded delivered same =
+pub followed_none : (c : Following) (f r : Option (List ℕ)) → IsValid c.parameters → c.symbol ≡ 0 → HasGathered c.words [] → HasBatched c.batch [] [] f f r r
+    → c.batch.crew.parameters ≡ c.parameters → HasFollowed c [] f f r r
+followed_none c f r v zero gathered batched same =
     let p : Parameters = c.parameters in
     let some : 1890 ≤ codeword_symbols p.order = codeword_symbols-ge p.order in
     let a : AreSymbols p 0 0 [] = record { some = some_slots p v; below = omega arith; size = (let e : 0 ≡ (0 * period_symbols p + 0) * symbol_slots p = grind arith in e) } in
@@ -342,4 +360,4 @@ followed_none c f r v zero none decoded delivered same =
     followed c 0 [] f f r r v (subst (λ k. AreSymbols p 0 k []) (sym zero) a)
     (subst (λ (rs : List (List ℕ)). HasSettled c rs (settled p []) f f r r) (sym rows)
     (settled_equal c [] [] (settled p []) f f r r (sym empty)
-    (record { decoded = decoded; pending = no_words p ∙ ap (λ (o : Option answer.Verdict). completed o c.words.block) (sym none); delivered = delivered; outlet = same })))
+    (record { gathered = gathered; batched = subst (λ (vs : List Verdict). HasBatched c.batch vs [] f f r r) (sym (no_words p)) batched; batch = same })))

@@ -13,3 +13,6 @@ pub mod Received
 pub mod Offsets
 pub mod Outcomes
 pub mod Streamed
+mod Batched
+pub mod Caused
+pub mod Read

@@ -1,13 +1,10 @@
 -- A stream as counts come in pieces of any length.
 use Rattle.std.proofs.Common.{◌≡◌, refl, Result, Ok, Err, IsErrOf, ◌+◌, ◌*◌, ◌/◌, ◌<◌, ◌≤◌, ◌++◌, ℕ, List, [], length, take, drop, ap, sym, subst, ◌∙◌, arith, append-nil, append_assoc, take-add}
 use Rattle.std.specs.declared.option.Option.{Option}
-use Rattle.std.specs.Io.KnownBytes.{append_known}
 use Rattle.std.proofs.lemmas.Nat.{div-mul-add}
 use Rattle.std.proofs.Math.Seq.{drop-append_seam}
 use Rattle.std.proofs.lemmas.List.{length-append, take-append-le, take_all, take-append-drop}
 use Rattle.hpe_base.specs.Parameters.{Parameters, IsValid, symbol_slots}
-use Rattle.hpe_base.specs.Decoded.{word_lines}
-use Rattle.hpe_base.specs.Rounds.{Verdict}
 use Rattle.hpe_recv.specs.Rows.{symbols_in, settled}
 use Rattle.hpe_recv.specs.Delivering.{PutsPart}
 use Rattle.hpe_recv.specs.Following.{Following, HasFollowed}
@@ -15,7 +12,8 @@ use Rattle.hpe_recv.specs.Streaming.{Streaming, HasTaken, whole_symbols}
 use Rattle.hpe_recv.proofs.CourseSettled.{some_slots, puts_same}
 use Rattle.hpe_recv.proofs.Fronts.{settled-front}
 use Rattle.hpe_recv.proofs.Settling.{puts_part_more}
-use Rattle.hpe_recv.proofs.TakenParts.{settled-whole, part-same}
+use Rattle.hpe_recv.proofs.Batched.{some_lines_front}
+use Rattle.hpe_recv.proofs.TakenParts.{HasLines, part-same, lines-same}
 use Rattle.hpe_recv.proofs.Taking.{Follows}
 
 -- counts that are whole symbols and less than a symbol more
@@ -89,20 +87,16 @@ puts_symbol old seen part more counts slots f f' r r' g g' t t' h e all part_put
     ap (λ (x : List ℕ). seen ++ x) all ∙ sym (append_assoc seen part more) ∙ ap (λ (x : List ℕ). x ++ more) (joins old seen part slots f f' r r' h e) in
     puts_more p (w ++ slots) more (seen ++ counts) g g' t t' h.followed.valid whole part_put
 
--- the lines of the verdicts of some counts are the first lines of those of more
-pub lines_more : (p : Parameters) (seen more all : List ℕ) (r r' : Option (List ℕ)) → IsValid p → all ≡ seen ++ more → r' ≡ append_known r (word_lines 0 (settled p seen))
-    → (n : ℕ) × (r' ≡ append_known r (word_lines 0 (take n (settled p all))))
-lines_more p seen more all r r' v e h =
-    let front = settled-front p seen more v in
-    let n : ℕ = length (settled p seen) in
-    let first : take n (settled p all) ≡ settled p seen =
-    ap (take n) (ap (settled p) e ∙ front.1) ∙ take-append-le n (settled p seen) front.0 (omega arith) ∙ take_all n (settled p seen) (omega arith) in
-    (n, h ∙ ap (λ (vs : List Verdict). append_known r (word_lines 0 vs)) (sym first))
-
--- the lines of the whole symbols are those of all counts
-pub lines_before : (s : Streaming) (seen : List ℕ) (f f' r r' told : Option (List ℕ)) → HasTaken s seen f f' r r'
-    → told ≡ append_known r (word_lines 0 (settled s.course.parameters (whole_symbols s.course.parameters seen))) → told ≡ append_known r (word_lines 0 (settled s.course.parameters seen))
-lines_before s seen f f' r r' told h e = e ∙ ap (λ (vs : List Verdict). append_known r (word_lines 0 vs)) (settled-whole s.course.parameters seen h.followed.valid)
+-- first lines of the verdicts of a symbol of a piece are first lines of those of all counts
+pub lines_symbol : (old : Streaming) (seen part more counts slots : List ℕ) (f f' r r' begin told : Option (List ℕ)) → HasTaken old seen f f' r r' → slots ≡ old.begun ++ part → counts ≡ part ++ more
+    → HasLines old.course.parameters (whole_symbols old.course.parameters seen ++ slots) begin told → HasLines old.course.parameters (seen ++ counts) begin told
+lines_symbol old seen part more counts slots f f' r r' begin told h e all some =
+    let p : Parameters = old.course.parameters in
+    let w : List ℕ = whole_symbols p seen in
+    let whole : seen ++ counts ≡ (w ++ slots) ++ more =
+    ap (λ (x : List ℕ). seen ++ x) all ∙ sym (append_assoc seen part more) ∙ ap (λ (x : List ℕ). x ++ more) (joins old seen part slots f f' r r' h e) in
+    let front = settled-front p (w ++ slots) more h.followed.valid in
+    some_lines_front (settled p (w ++ slots)) front.0 (settled p (seen ++ counts)) begin told (ap (settled p) whole ∙ front.1) some
 
 -- the error of a result, or another one
 error_or : {T E : Type 0} → E → Result T E → E
@@ -141,11 +135,10 @@ pub puts_rest : (p q : Parameters) (seen counts rest : List ℕ) (place : ℕ) (
 puts_rest p q seen counts rest place f f' r r' same e h =
     part-same p q ((seen ++ take place counts) ++ rest) (seen ++ counts) f f' r r' same (ap (λ (x : List ℕ). (seen ++ take place counts) ++ x) e ∙ front_and_rest seen counts place) h
 
-pub lines_rest : (s : Streaming) (p : Parameters) (seen counts : List ℕ) (place : ℕ) (f f' r r' told : Option (List ℕ)) → HasTaken s (seen ++ take place counts) f f' r r' → s.course.parameters ≡ p
-    → told ≡ append_known r (word_lines 0 (settled s.course.parameters (seen ++ take place counts))) → (n : ℕ) × (told ≡ append_known r (word_lines 0 (take n (settled p (seen ++ counts)))))
-lines_rest s p seen counts place f f' r r' told h same e =
-    subst (λ (x : Parameters). (n : ℕ) × (told ≡ append_known r (word_lines 0 (take n (settled x (seen ++ counts)))))) same
-    (lines_more s.course.parameters (seen ++ take place counts) (drop place counts) (seen ++ counts) r told h.followed.valid (sym (front_and_rest seen counts place)) e)
+pub lines_rest : (p q : Parameters) (seen counts rest : List ℕ) (place : ℕ) (begin told : Option (List ℕ)) → q ≡ p → rest ≡ drop place counts
+    → HasLines q ((seen ++ take place counts) ++ rest) begin told → HasLines p (seen ++ counts) begin told
+lines_rest p q seen counts rest place begin told same e h =
+    lines-same p q ((seen ++ take place counts) ++ rest) (seen ++ counts) begin told same (ap (λ (x : List ℕ). (seen ++ take place counts) ++ x) e ∙ front_and_rest seen counts place) h
 
 -- a stream before its first count
 pub taken_none : (s : Streaming) (f r : Option (List ℕ)) → HasFollowed s.course [] f f r r → s.begun ≡ [] → HasTaken s [] f f r r

@@ -1,20 +1,23 @@
 -- What a stream that took counts has put.
-use Rattle.std.proofs.Common.{◌≡◌, ◌≤◌, ◌<◌, ◌+◌, ◌*◌, ◌/◌, ◌%◌, ℕ, List, length, take, drop, ap, sym, ◌∙◌, refl, arith}
+use Rattle.std.proofs.Common.{◌≡◌, ◌≤◌, ◌<◌, ◌+◌, ◌*◌, ◌/◌, ◌%◌, ◌++◌, ℕ, List, length, take, drop, ap, sym, subst, ◌∙◌, refl, arith}
 use Rattle.std.proofs.lemmas.Nat.{div-mul-add, div-add-mod', mod_below}
-use Rattle.std.proofs.lemmas.List.{take_all, take-append-drop, length-take}
+use Rattle.std.proofs.lemmas.List.{take-append-drop, length-take}
 use Rattle.std.specs.declared.option.Option.{Option}
 use Rattle.std.specs.Io.KnownBytes.{append_known}
 use Rattle.hpe_base.specs.Lists.{tabulate}
 use Rattle.hpe_base.specs.Parameters.{Parameters, IsValid, symbol_slots, period_symbols, codeword_symbols}
 use Rattle.hpe_base.specs.ReceivedWords.{received_sums}
+use Rattle.hpe_base.specs.Rounds.{Verdict}
 use Rattle.hpe_base.specs.Decoded.{word_lines}
 use Rattle.hpe_base.proofs.ParameterLemmas.{codeword_symbols-ge}
 use Rattle.hpe_recv.specs.Rows.{symbols_in, rows_in, rows_of, settled}
-use Rattle.hpe_recv.specs.Delivering.{PutsPart, frames_of}
+use Rattle.hpe_recv.specs.Delivering.{PutsPart}
+use Rattle.hpe_recv.specs.Batching.{ready}
 use Rattle.hpe_recv.specs.Streaming.{Streaming, HasTaken, whole_symbols}
 use Rattle.hpe_recv.proofs.CourseRows.{AreSymbols, received_sums-front, tabulate-agree}
 use Rattle.hpe_recv.proofs.CourseSettled.{some_slots}
-use Rattle.hpe_recv.proofs.Settling.{front_of_all}
+use Rattle.hpe_recv.proofs.Settling.{delivered_part}
+use Rattle.hpe_recv.proofs.Batched.{lines_of_front}
 
 -- counts of a symbol that isn't whole bring no row
 rows-whole : (p : Parameters) (seen : List ℕ) → IsValid p → rows_of p (whole_symbols p seen) ≡ rows_of p seen
@@ -59,20 +62,20 @@ module _ (s : Streaming) (seen : List ℕ) (start now begin told : Option (List 
   all : settled s.course.parameters (whole_symbols s.course.parameters seen) ≡ settled p seen
   all = settled-whole s.course.parameters seen h.followed.valid ∙ ap (λ q. settled q seen) same
 
-  frames : now ≡ append_known start (frames_of p (settled p seen))
-  frames = h.followed.stands.delivered.frames_put
-      ∙ (ap (λ q. append_known start (frames_of q (settled s.course.parameters (whole_symbols s.course.parameters seen)))) (h.followed.stands.outlet ∙ same)
-      ∙ ap (λ v. append_known start (frames_of p v)) all)
+  -- what is put stands at the front of them
+  all_are : settled p seen ≡ h.followed.stands.batched.put ++ ready s.course.batch
+  all_are = sym all ∙ h.followed.stands.batched.whole_are
 
-  lines : told ≡ append_known begin (word_lines 0 (settled p seen))
-  lines = h.followed.stands.delivered.report_put ∙ ap (λ v. append_known begin (word_lines 0 v)) all
+  same_scan : s.course.batch.outlet.scan.parameters ≡ p
+  same_scan = h.followed.stands.batched.outlet ∙ h.followed.stands.batch ∙ same
 
-  -- where nothing failed, all was put that is settled
+  -- where nothing failed, a front was put of what is settled
   pub taken_part : PutsPart p (settled p seen) start now begin told
-  taken_part = record {
-    frames_part = front_of_all start now (frames_of p (settled p seen)) frames;
-    report_part = front_of_all begin told (word_lines 0 (settled p seen)) lines;
-  }
+  taken_part =
+      subst (λ (q : Parameters). PutsPart q (settled p seen) start now begin told) same_scan
+      (subst (λ (vs : List Verdict). PutsPart s.course.batch.outlet.scan.parameters vs start now begin told) (sym all_are)
+      (delivered_part s.course.batch.outlet h.followed.stands.batched.put (ready s.course.batch) start now begin told h.followed.stands.batched.delivered))
 
   pub taken_lines : HasLines p seen begin told
-  taken_lines = (length (settled p seen), lines ∙ ap (λ v. append_known begin (word_lines 0 v)) (sym (take_all (length (settled p seen)) (settled p seen) (omega arith))))
+  taken_lines =
+      lines_of_front h.followed.stands.batched.put (ready s.course.batch) (settled p seen) begin told all_are h.followed.stands.batched.delivered.report_put

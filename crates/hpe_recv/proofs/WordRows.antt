@@ -8,18 +8,17 @@ use Rattle.std.proofs.lemmas.List.Elements.{All-push, All-drop}
 use Rattle.std.proofs.lemmas.Slice.{take-put_mid, take-put_mid_below}
 use borrow.Rule.Slice.PartMut.{put_mid}
 use Rattle.std.specs.Vec.{with_items}
-use Rattle.hpe_base.specs.declared.profile.Order.{Order}
-use Rattle.hpe_base.specs.declared.profile.Order.TheVariants.{P4, P8, P16, P32, P64, P128, P256}
 use Rattle.std.proofs.lemmas.List.Concat.{flat_map-append}
 use Rattle.hpe_base.specs.Parameters.{Parameters, positions, codeword_symbols, interleaver_depth}
 use Rattle.hpe_base.specs.ChannelInterleaver.{delay_at, deinterleaved_channel}
 use Rattle.hpe_base.specs.ReceivedWords.{groups_of}
 use Rattle.hpe_base.specs.Rounds.{Verdict, verdict_of}
 use Rattle.hpe_base.proofs.Tabulated.{length-tabulate, get_or-tabulate}
+use Rattle.hpe_base.proofs.ParameterLemmas.{delay_at-le, positions-pos}
 use Rattle.hpe_weave.specs.Unweaving.{HasUnwoven}
-use Rattle.hpe_weave.proofs.Channels.{delay_at-le, unchannel_none}
+use Rattle.hpe_weave.proofs.Channels.{unchannel_none}
 use Rattle.hpe_recv.specs.Rows.{verdicts_in}
-use Rattle.hpe_recv.specs.Wording.{Wording, HasDecoded, placed}
+use Rattle.hpe_recv.specs.Wording.{Wording, HasGathered, placed}
 use Rattle.hpe_recv.specs.WordsView.{wording, IsWording}
 use Rattle.hpe_recv.specs.declared.words.Words.TheInside.{Inside}
 use Rattle.hpe_recv.proofs.Groups.{begun, length-begun, begun_more, begun_none, groups_same, groups_more, length-flat, All-flat}
@@ -129,7 +128,7 @@ verdicts_word p rows row out e h =
 
 -- the words stand once a row is taken
 pub stands_after : (w w' : Wording) (rows : List (List ℕ)) (row : List ℕ) → w'.parameters ≡ w.parameters → HasUnwoven w'.unweaver (rows ++ row ∷ [])
-    → w'.sums ≡ begun_sums w.parameters (rows ++ row ∷ []) → small row → HasDecoded w rows → HasDecoded w' (rows ++ row ∷ [])
+    → w'.sums ≡ begun_sums w.parameters (rows ++ row ∷ []) → small row → HasGathered w rows → HasGathered w' (rows ++ row ∷ [])
 stands_after w w' rows row p unwoven sums s h = record {
   unwoven = unwoven;
   sums = sums ∙ sym (ap (λ (q : Parameters). begun_sums q (rows ++ row ∷ [])) p);
@@ -158,7 +157,7 @@ pub record IsRowPut (v : Vec ℕ Global) (now out : List ℕ) (filled m wide : �
   pub room : filled * m + m ≤ length v.items
 
 -- the list with the row in its place
-abbrev with_row : Vec ℕ Global → List ℕ → List ℕ → ℕ → ℕ → Vec ℕ Global
+abbrev pub with_row : Vec ℕ Global → List ℕ → List ℕ → ℕ → ℕ → Vec ℕ Global
 with_row v now out filled wide = with_items v (put_mid (filled * wide) (filled * wide + wide - filled * wide) now out)
 
 items_put : (v : Vec ℕ Global) (now out : List ℕ) (filled m wide : ℕ) → IsRowPut v now out filled m wide
@@ -240,18 +239,8 @@ begun_nothing p m sums =
     take_none m sums
     ∙ sym (ap (λ (l : List (List ℕ)). sums_of (begun n l)) none ∙ ap sums_of (drop_all (length nil - length nil % n) nil (omega arith)))
 
--- a symbol has positions
-pub positions-pos : (o : Order) → 0 < positions o
-positions-pos P4 = omega arith
-positions-pos P8 = omega arith
-positions-pos P16 = omega arith
-positions-pos P32 = omega arith
-positions-pos P64 = omega arith
-positions-pos P128 = omega arith
-positions-pos P256 = omega arith
-
 -- how many rows of the begun word have come
-pub filled_rows : (w : Inside) → IsWording w → 0 < w.profile.rows → (rows : List (List ℕ)) → HasDecoded (wording w) rows
+pub filled_rows : (w : Inside) → IsWording w → 0 < w.profile.rows → (rows : List (List ℕ)) → HasGathered (wording w) rows
     → w.filled ≡ length (placed w.profile rows) % codeword_symbols w.profile.order
 filled_rows w i pos rows h =
     let m = positions w.profile.order in

@@ -1,11 +1,15 @@
 pub mod Rows
 pub mod Wording
 pub mod WordsView
+pub mod Causes
 pub mod Delivering
+pub mod Batching
+pub mod BatchView
 pub mod OutletView
 pub mod Following
 pub mod CourseView
 pub mod Streaming
+pub mod Reading
 pub mod StreamView
 pub mod Receiving
 pub mod ReceiverView

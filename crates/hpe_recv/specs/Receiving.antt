@@ -1,33 +1,34 @@
 -- What a receiver keeps, what it did to its input and its sinks, and how its results are told apart.
-use Rattle.std.specs.Prelude.{⊤, ℕ, ◌≡◌, ◌<◌, ◌≤◌, ◌+◌, ◌*◌, ◌/◌, List, length, take, Bool, ◌++◌, codes, decimal, Result, Ok, Err}
+use Rattle.std.specs.Prelude.{⊤, ℕ, ◌≡◌, ◌≤◌, ◌+◌, ◌*◌, ◌/◌, List, length, take, Bool, ◌++◌, codes, decimal, Result, Ok, Err}
 use Rattle.std.specs.declared.option.Option.{Option}
 use Rattle.std.specs.Io.KnownBytes.{append_known, prepend_known}
 use Rattle.hpe_base.specs.Parameters.{Parameters, positions, symbol_slots, interleaver_depth, codeword_symbols}
 use Rattle.hpe_base.specs.Decoded.{Tally, verdicts_of, decoded, report_of, word_lines}
 use Rattle.hpe_io.specs.Devices.{ReadsAll, GrowsByFront}
 use Rattle.hpe_find.specs.Finding.{finder_room}
-use Rattle.hpe_weave.specs.Unweaving.{Unweaving}
 use Rattle.hpe_recv.specs.declared.intake.Untaken.{Untaken}
 use Rattle.hpe_recv.specs.declared.intake.Untaken.TheVariants as untaken
 use Rattle.hpe_recv.specs.declared.receiver.Tally as counter
 use Rattle.hpe_recv.specs.declared.receiver.RecvFault.{RecvFault}
 use Rattle.hpe_recv.specs.declared.receiver.RecvFault.TheVariants.{Read, Write, Report, TooLong, NoMarker}
 
--- a receiver: whether it has received nothing, the counts that the marker search keeps, those of the symbol that is
--- begun, the inverse of the channel interleaver, and the sums of the word that is begun
+-- a receiver: whether it has received nothing, and how many counts and sums it keeps: the counts of the marker search,
+-- those of the symbol that is begun, the sums that wait in the channel interleaver, and those of the words that are loaded
+-- or begun
 pub record Receiving : Type 0 where
   pub parameters : Parameters
+  pub workers : ℕ
   pub fresh : Bool
-  pub counts : List ℕ
-  pub begun : List ℕ
-  pub unweaver : Unweaving
-  pub sums : List ℕ
+  pub counts : ℕ
+  pub begun : ℕ
+  pub waiting : ℕ
+  pub sums : ℕ
 
 -- the most counts and sums that a receiver keeps
-abbrev pub held_limit : Parameters → ℕ
-held_limit p =
+abbrev pub held_limit : Parameters → ℕ → ℕ
+held_limit p workers =
     finder_room p + symbol_slots p
-    + (positions p.order * interleaver_depth p / 2 + codeword_symbols p.order * positions p.order)
+    + (positions p.order * interleaver_depth p / 2 + workers * (codeword_symbols p.order * positions p.order))
 
 -- a tally as the definitions have it
 abbrev pub tallied : counter.Tally → Tally
@@ -39,10 +40,6 @@ fault_of untaken.Read = Read
 fault_of untaken.Frames = Write
 fault_of untaken.Report = Report
 fault_of untaken.TooLong = TooLong
-
--- what holds where the search was not settled by the counts that it keeps
-abbrev pub UnlessSettled : Parameters → List ℕ → Type 0 → Type 0
-UnlessSettled p counts P = length counts < finder_room p → P
 
 -- these counts were read to the input's end, at most the limit, and the sinks grew by their frames and their report
 pub record Receives (p : Parameters) (limit : ℕ) (left left' frames frames' report report' : Option (List ℕ)) (counts : List ℕ) : Type 0 where

@@ -1,28 +1,31 @@
-// The course of a stream, symbol by symbol: markers are passed over, the other symbols go to the words, and at the end of
-// each period the word that was completed in it is settled.
-ghost use Rattle.std.specs.Prelude.{◌≡◌, ◌≤◌, ◌<◌, ◌+◌, ◌*◌, ◌/◌, ◌^◌, ◌++◌, ◌∷◌, ◌↔◌, if◌then◌else◌, IsTrue, [], ℕ, List, length, IfOk, OnOk, OnErr, IsErrOf, None, false};
+//! The course of a stream, symbol by symbol: markers are passed over, the other symbols go to the words, and at the end of
+//! each period the word that was completed in it is settled.
+ghost use Rattle.std.specs.Prelude.{◌≡◌, ◌≤◌, ◌<◌, ◌+◌, ◌*◌, ◌/◌, ◌^◌, ◌++◌, ◌↔◌, if◌then◌else◌, IsTrue, [], ℕ, length, take, IfOk, OnOk, OnErr, IsErrOf, false};
 ghost use Rattle.std.specs.Io.KnownBytes.{append_known};
 ghost use Rattle.hpe_base.specs.Parameters.{positions, symbol_slots, period_symbols, interleaver_depth, codeword_symbols};
 ghost use Rattle.hpe_base.specs.Decoded.{word_lines};
-ghost use Rattle.hpe_io.specs.Devices.{Rose};
-ghost use Rattle.hpe_weave.specs.Unweaving.{HasUnwoven, held_after};
-ghost use Rattle.hpe_recv.specs.Delivering.{PutsPart};
-ghost use Rattle.hpe_base.specs.ReceivedWords.{symbol_sums};
+ghost use Rattle.hpe_io.specs.Standing.{SinkStands};
+ghost use Rattle.hpe_weave.specs.Unweaving.{waiting_in};
+ghost use Rattle.hpe_recv.specs.Batching.{blocks_due};
+ghost use Rattle.hpe_recv.specs.Causes.{HasCutCause};
+ghost use Rattle.hpe_recv.specs.Delivering.{HasDelivered, PutsPart};
 ghost use Rattle.hpe_recv.specs.Following.{HasFollowed, HasSettled};
-ghost use Rattle.hpe_recv.specs.Rows.{settled, verdicts_in};
+ghost use Rattle.hpe_recv.specs.Rows.{rows_of, settled, verdicts_in};
 
+use crate::batch::Batch;
 use crate::outlet::{Cut, Outlet};
 use crate::words::Words;
 use hpe_base::{NoMemory, Profile};
+use hpe_crew::Gate;
 use hpe_io::Sink;
 use hpe_slots::gather;
-use hpe_turn::Verdict;
 use std::alloc::Global;
 use std::marker::Model;
+use std::thread::Threads;
 
 /// What is kept of a stream between two symbols.
 ///
-/// A word is decoded with its last row, and its verdict waits for the end of the period, since the rows of a period that
+/// A word that is whole goes to the batch at once, and is settled at the end of its period, since the rows of a period that
 /// the stream doesn't end play no part. No more than one word is completed in a period.
 #[derive(Drop)]
 pub struct Course {
@@ -32,8 +35,7 @@ pub struct Course {
     words: Words,
     /// The sums of one symbol.
     row: Vec<u16>,
-    pending: Option<Verdict>,
-    outlet: Outlet,
+    batch: Batch,
 }
 
 impl Model for Course {
@@ -50,14 +52,16 @@ impl Model for Course {
 
 impl Course {
     /// The course of a stream of which nothing has come. It takes all its memory here.
-    pub fn new(alloc: Global, p: &Profile) -> Result<Course, NoMemory>
+    pub fn new(alloc: Global, p: &Profile, workers: u32) -> Result<Course, NoMemory>
+        requires workers { (1 ≤ workers) × (workers ≤ 16) }
         ensures profile { IfOk result (λ c. c.parameters ≡ p.now) }
+        ensures workers { IfOk result (λ c. c.batch.crew.workers ≡ workers) }
         ensures stands { IfOk result (λ c. (frames : _) (report : _) → HasFollowed c [] frames frames report report) }
-        ensures unspent { IfOk result (λ c. c.outlet.scan.spent ≡ false) }
-        ensures blocks { IfOk result (λ c. c.outlet.scan.blocks ≡ 0) }
+        ensures unspent { IfOk result (λ c. c.batch.outlet.scan.spent ≡ false) }
+        ensures blocks { IfOk result (λ c. blocks_due c.batch ≡ 0) }
     {
         let words = Words::new(alloc, p)?;
-        let outlet = Outlet::new(alloc, p)?;
+        let batch = Batch::new(alloc, p, workers)?;
         let Ok(row) = vec![in alloc; 0; p.order().slots()] else {
             return Err(NoMemory);
         };
@@ -66,32 +70,51 @@ impl Course {
             symbol: 0,
             words,
             row,
-            pending: None,
-            outlet,
+            batch,
         })
     }
 
-    /// Takes the counts of the next symbol, where it is none of a marker.
-    fn collect(&mut self, slots: &[u8])
+    /// Takes the counts of the next symbol, where it is none of a marker, and hands on the word that is whole with it.
+    fn collect<T: Threads + Sync, G: Gate, O: Sink, R: Sink>(
+        &mut self,
+        rt: &T,
+        gate: &G,
+        slots: &[u16],
+        frames: &mut O,
+        report: &mut R,
+    ) -> Result<(), Cut>
+        requires unspent { self.old.batch.outlet.scan.spent ≡ false }
+        requires few { blocks_due self.old.batch < 2 ^ 40 }
         requires slots { length slots.now ≡ symbol_slots self.old.parameters }
         ensures profile { self.new.parameters ≡ self.old.parameters }
         ensures symbol { self.new.symbol ≡ self.old.symbol }
-        ensures outlet { self.new.outlet ≡ self.old.outlet }
-        ensures marker { self.old.symbol < length self.old.parameters.marker → self.new ≡ self.old }
-        ensures row { length self.old.parameters.marker ≤ self.old.symbol
-            → (rows : _) (verdicts : _) (frames : _) (frames' : _) (report : _) (report' : _)
-            → HasSettled self.old rows verdicts frames frames' report report'
-            → length (verdicts_in self.old.parameters (rows ++ symbol_sums self.old.parameters slots.now 0 ∷ [])) ≤ length verdicts + 1
-            → HasSettled self.new (rows ++ symbol_sums self.old.parameters slots.now 0 ∷ []) verdicts frames frames' report report' }
+        ensures unspent { OnOk result (self.new.batch.outlet.scan.spent ≡ false) }
+        ensures blocks { blocks_due self.new.batch ≤ blocks_due self.old.batch + 1 }
+        ensures ok { (seen : _) (start : _) (begin : _) → HasFollowed self.old seen start
+            (O.written frames.old) begin (R.written report.old)
+            → OnOk result (HasSettled self.new (rows_of self.old.parameters (seen ++ slots.now))
+            (settled self.old.parameters seen) start (O.written frames.new) begin (R.written report.new)) }
+        ensures cut { (seen : _) (start : _) (begin : _) → HasFollowed self.old seen start
+            (O.written frames.old) begin (R.written report.old)
+            → OnErr result (PutsPart self.old.parameters (settled self.old.parameters seen) start
+            (O.written frames.new) begin (R.written report.new)) }
+        ensures lines { (seen : _) (start : _) (begin : _) → HasFollowed self.old seen start
+            (O.written frames.old) begin (R.written report.old)
+            → IsErrOf result Cut.Frames → (n : ℕ) × (R.written report.new ≡ append_known begin (word_lines 0
+            (take n (settled self.old.parameters seen)))) }
+        ensures cause { HasCutCause (O.faults frames.old) (O.faults frames.new) (R.faults report.old)
+            (R.faults report.new) result }
+        ensures frames_stand { SinkStands O.faults O.mark frames.old frames.new }
+        ensures report_stands { SinkStands R.faults R.mark report.old report.new }
     {
         if self.symbol < self.profile.marker().len() {
-            return;
+            return Ok(());
         }
         gather(&self.profile, slots, &mut self.row);
-        let verdict = self.words.push(self.row.as_slice());
-        if verdict.is_some() {
-            self.pending = verdict;
+        if !self.words.push(self.row.as_slice()) {
+            return Ok(());
         }
+        self.batch.word(rt, gate, self.words.word(), frames, report)
     }
 
     /// Counts a symbol, and answers whether the period ends with it.
@@ -107,60 +130,68 @@ impl Course {
 
     /// Settles the word that was completed in the period.
     fn settle<O: Sink, R: Sink>(&mut self, frames: &mut O, report: &mut R) -> Result<(), Cut>
-        requires unspent { self.old.outlet.scan.spent ≡ false }
-        requires few { self.old.outlet.scan.blocks < 2 ^ 40 }
+        requires unspent { self.old.batch.outlet.scan.spent ≡ false }
+        requires few { blocks_due self.old.batch ≤ 2 ^ 40 }
         ensures profile { self.new.parameters ≡ self.old.parameters }
         ensures symbol { self.new.symbol ≡ self.old.symbol }
-        ensures unspent { OnOk result (self.new.outlet.scan.spent ≡ false) }
-        ensures blocks { self.new.outlet.scan.blocks ≤ self.old.outlet.scan.blocks + 1 }
-        ensures ok { (rows : _) (verdicts : _) (start : _) (begin : _) → HasSettled self.old rows verdicts start (O.written frames.old) begin (R.written report.old)
-            → OnOk result (HasSettled self.new rows (verdicts_in self.old.parameters rows) start (O.written frames.new) begin (R.written report.new)) }
-        ensures cut { (rows : _) (verdicts : _) (start : _) (begin : _) → HasSettled self.old rows verdicts start (O.written frames.old) begin (R.written report.old)
-            → OnErr result (PutsPart self.old.parameters (verdicts_in self.old.parameters rows) start (O.written frames.new) begin (R.written report.new)) }
-        ensures lines { (rows : _) (verdicts : _) (start : _) (begin : _) → HasSettled self.old rows verdicts start (O.written frames.old) begin (R.written report.old)
-            → IsErrOf result Cut.Frames → R.written report.new ≡ append_known begin (word_lines 0 verdicts) }
-        ensures frames { IsErrOf result Cut.Frames → Rose (O.faults frames.old) (O.faults frames.new) }
-        ensures report { IsErrOf result Cut.Report → Rose (R.faults report.old) (R.faults report.new) }
-        ensures frames_later { O.faults frames.old ≤ O.faults frames.new }
-        ensures report_later { R.faults report.old ≤ R.faults report.new }
-        ensures frames_mark { O.mark frames.new ≡ O.mark frames.old }
-        ensures report_mark { R.mark report.new ≡ R.mark report.old }
+        ensures unspent { OnOk result (self.new.batch.outlet.scan.spent ≡ false) }
+        ensures blocks { blocks_due self.new.batch ≤ blocks_due self.old.batch }
+        ensures ok { (rows : _) (verdicts : _) (start : _) (begin : _)
+            → HasSettled self.old rows verdicts start (O.written frames.old) begin (R.written report.old)
+            → OnOk result (HasSettled self.new rows (verdicts_in self.old.parameters rows) start
+            (O.written frames.new) begin (R.written report.new)) }
+        ensures cut { (rows : _) (verdicts : _) (start : _) (begin : _)
+            → HasSettled self.old rows verdicts start (O.written frames.old) begin (R.written report.old)
+            → OnErr result (PutsPart self.old.parameters (verdicts_in self.old.parameters rows) start
+            (O.written frames.new) begin (R.written report.new)) }
+        ensures lines { (rows : _) (verdicts : _) (start : _) (begin : _)
+            → HasSettled self.old rows verdicts start (O.written frames.old) begin (R.written report.old)
+            → IsErrOf result Cut.Frames → (n : ℕ) × (R.written report.new ≡ append_known begin (word_lines 0
+            (take n verdicts))) }
+        ensures cause { HasCutCause (O.faults frames.old) (O.faults frames.new) (R.faults report.old)
+            (R.faults report.new) result }
+        ensures frames_stand { SinkStands O.faults O.mark frames.old frames.new }
+        ensures report_stands { SinkStands R.faults R.mark report.old report.new }
     {
-        match self.pending.take() {
-            Some(verdict) => self
-                .outlet
-                .deliver(verdict, self.words.block(), frames, report),
-            None => Ok(()),
-        }
+        self.batch.settle(frames, report)
     }
 
     /// Takes the counts of the next symbol with its repeats, and puts what they settle.
-    pub fn symbol<O: Sink, R: Sink>(
+    pub fn symbol<T: Threads + Sync, G: Gate, O: Sink, R: Sink>(
         &mut self,
-        slots: &[u8],
+        rt: &T,
+        gate: &G,
+        slots: &[u16],
         frames: &mut O,
         report: &mut R,
     ) -> Result<(), Cut>
-        requires unspent { self.old.outlet.scan.spent ≡ false }
-        requires few { self.old.outlet.scan.blocks < 2 ^ 40 }
+        requires unspent { self.old.batch.outlet.scan.spent ≡ false }
+        requires few { blocks_due self.old.batch < 2 ^ 40 }
         requires slots { length slots.now ≡ symbol_slots self.old.parameters }
         ensures profile { self.new.parameters ≡ self.old.parameters }
-        ensures unspent { OnOk result (self.new.outlet.scan.spent ≡ false) }
-        ensures blocks { self.new.outlet.scan.blocks ≤ self.old.outlet.scan.blocks + 1 }
-        ensures ok { (seen : _) (start : _) (begin : _) → HasFollowed self.old seen start (O.written frames.old) begin (R.written report.old)
-            → OnOk result (HasFollowed self.new (seen ++ slots.now) start (O.written frames.new) begin (R.written report.new)) }
-        ensures cut { (seen : _) (start : _) (begin : _) → HasFollowed self.old seen start (O.written frames.old) begin (R.written report.old)
-            → OnErr result (PutsPart self.old.parameters (settled self.old.parameters (seen ++ slots.now)) start (O.written frames.new) begin (R.written report.new)) }
-        ensures lines { (seen : _) (start : _) (begin : _) → HasFollowed self.old seen start (O.written frames.old) begin (R.written report.old)
-            → IsErrOf result Cut.Frames → R.written report.new ≡ append_known begin (word_lines 0 (settled self.old.parameters seen)) }
-        ensures frames { IsErrOf result Cut.Frames → Rose (O.faults frames.old) (O.faults frames.new) }
-        ensures report { IsErrOf result Cut.Report → Rose (R.faults report.old) (R.faults report.new) }
-        ensures frames_later { O.faults frames.old ≤ O.faults frames.new }
-        ensures report_later { R.faults report.old ≤ R.faults report.new }
-        ensures frames_mark { O.mark frames.new ≡ O.mark frames.old }
-        ensures report_mark { R.mark report.new ≡ R.mark report.old }
+        ensures unspent { OnOk result (self.new.batch.outlet.scan.spent ≡ false) }
+        ensures blocks { blocks_due self.new.batch ≤ blocks_due self.old.batch + 1 }
+        ensures ok { (seen : _) (start : _) (begin : _) → HasFollowed self.old seen start
+            (O.written frames.old) begin (R.written report.old)
+            → OnOk result (HasFollowed self.new (seen ++ slots.now) start (O.written frames.new) begin
+            (R.written report.new)) }
+        ensures cut { (seen : _) (start : _) (begin : _) → HasFollowed self.old seen start
+            (O.written frames.old) begin (R.written report.old)
+            → OnErr result (PutsPart self.old.parameters (settled self.old.parameters (seen ++ slots.now))
+            start (O.written frames.new) begin (R.written report.new)) }
+        ensures lines { (seen : _) (start : _) (begin : _) → HasFollowed self.old seen start
+            (O.written frames.old) begin (R.written report.old)
+            → IsErrOf result Cut.Frames → (n : ℕ) × (R.written report.new ≡ append_known begin (word_lines 0
+            (take n (settled self.old.parameters (seen ++ slots.now))))) }
+        ensures cause { HasCutCause (O.faults frames.old) (O.faults frames.new) (R.faults report.old)
+            (R.faults report.new) result }
+        ensures frames_stand { SinkStands O.faults O.mark frames.old frames.new }
+        ensures report_stands { SinkStands R.faults R.mark report.old report.new }
     {
-        self.collect(slots);
+        match self.collect(rt, gate, slots, frames, report) {
+            Ok(()) => {}
+            Err(cut) => return Err(cut),
+        }
         if self.advance() {
             self.settle(frames, report)
         } else {
@@ -168,20 +199,55 @@ impl Course {
         }
     }
 
-    /// The last stage.
-    pub fn outlet(&self) -> &Outlet
-        ensures { result.now ≡ self.now.outlet }
+    /// The stream has ended: the verdicts that are settled and wait are put.
+    pub fn finish<T: Threads + Sync, G: Gate, O: Sink, R: Sink>(
+        &mut self,
+        rt: &T,
+        gate: &G,
+        frames: &mut O,
+        report: &mut R,
+    ) -> Result<(), Cut>
+        requires unspent { self.old.batch.outlet.scan.spent ≡ false }
+        requires few { blocks_due self.old.batch ≤ 2 ^ 40 }
+        ensures profile { self.new.parameters ≡ self.old.parameters }
+        ensures scan { self.new.batch.outlet.scan.parameters ≡ self.new.parameters }
+        ensures ok { (seen : _) (start : _) (begin : _) → HasFollowed self.old seen start
+            (O.written frames.old) begin (R.written report.old)
+            → OnOk result (HasDelivered self.new.batch.outlet (settled self.old.parameters seen) start
+            (O.written frames.new) begin (R.written report.new)) }
+        ensures cut { (seen : _) (start : _) (begin : _) → HasFollowed self.old seen start
+            (O.written frames.old) begin (R.written report.old)
+            → OnErr result (PutsPart self.old.parameters (settled self.old.parameters seen) start
+            (O.written frames.new) begin (R.written report.new)) }
+        ensures lines { (seen : _) (start : _) (begin : _) → HasFollowed self.old seen start
+            (O.written frames.old) begin (R.written report.old)
+            → IsErrOf result Cut.Frames → (n : ℕ) × (R.written report.new ≡ append_known begin (word_lines 0
+            (take n (settled self.old.parameters seen)))) }
+        ensures cause { HasCutCause (O.faults frames.old) (O.faults frames.new) (R.faults report.old)
+            (R.faults report.new) result }
+        ensures frames_stand { SinkStands O.faults O.mark frames.old frames.new }
+        ensures report_stands { SinkStands R.faults R.mark report.old report.new }
     {
-        &self.outlet
+        self.batch.finish(rt, gate, frames, report)
     }
 
-    /// The number of sums that are kept.
-    pub fn held(&self) -> u64
-        ensures value { (rows : _) → HasUnwoven self.now.words.unweaver rows
-            → result ≡ held_after self.now.words.unweaver.parameters (length rows) + length self.now.words.sums }
-        ensures most { result ≤ positions self.now.parameters.order * interleaver_depth self.now.parameters / 2 + codeword_symbols self.now.parameters.order * positions self.now.parameters.order }
-        ensures few { result ≤ 2 ^ 27 }
+    /// The last stage.
+    pub fn outlet(&self) -> &Outlet
+        ensures { result.now ≡ self.now.batch.outlet }
     {
-        self.words.held()
+        self.batch.outlet()
+    }
+
+    /// The number of sums that are kept: those of the words that are loaded or begun, and those that wait in the channel
+    /// interleaver.
+    pub fn held(&self) -> u64
+        ensures value { result ≡ waiting_in self.now.words.unweaver + length self.now.words.sums
+            + length self.now.batch.crew.loads * (codeword_symbols self.now.parameters.order * positions self.now.parameters.order) }
+        ensures most { result ≤ positions self.now.parameters.order * interleaver_depth self.now.parameters / 2
+            + self.now.batch.crew.workers * (codeword_symbols self.now.parameters.order * positions self.now.parameters.order) }
+        ensures few { result ≤ 2 ^ 28 }
+    {
+        let word = self.profile.order().symbols() * self.profile.order().slots();
+        self.words.held() + u64::from(self.batch.loaded()) * word as u64
     }
 }

@@ -1,19 +1,19 @@
-// The input from its first octet to its last, piece by piece: first for the marker search, then for the stream.
-ghost use Rattle.std.specs.Prelude.{◌≡◌, ◌<◌, ◌≤◌, ◌+◌, ◌-◌, ◌^◌, ℕ, List, [], ◌++◌, length, take, IfOk, OnErr, IsErrOf, false};
-ghost use Rattle.std.specs.Io.KnownBytes.{prepend_known, append_known, IsAtEnd};
+//! The input from its first octet to its last, piece by piece: first for the marker search, then for the stream. These are
+//! the loops that no stream takes part in.
+ghost use Rattle.std.specs.Prelude.{◌≡◌, ◌<◌, ◌≤◌, ◌+◌, ◌++◌, ℕ, List, length, IfOk, OnOk, OnErr, IsErrOf};
+ghost use Rattle.std.specs.Io.KnownBytes.{IsAtEnd};
 ghost use Rattle.hpe_base.specs.MarkerSearch.{offset_of};
-ghost use Rattle.hpe_base.specs.Decoded.{word_lines};
-ghost use Rattle.hpe_io.specs.Devices.{ReadsAll, Rose, TakesAtMost, TakesCount};
+ghost use Rattle.hpe_io.specs.Intake.{HasCome, HasStopped};
+ghost use Rattle.hpe_io.specs.Standing.{SourceStands};
 ghost use Rattle.hpe_find.specs.Finding.{finder_room};
 ghost use Rattle.hpe_find.specs.Found.{found_of};
-ghost use Rattle.hpe_recv.specs.Delivering.{PutsPart};
-ghost use Rattle.hpe_recv.specs.Rows.{settled};
-ghost use Rattle.hpe_recv.specs.Streaming.{HasTaken};
+ghost use Rattle.hpe_recv.specs.Causes.{HasReadCause};
+ghost use Rattle.hpe_recv.specs.Reading.{HasBroken, HasEnded, UnlessSettled};
 
-use crate::outlet::Cut;
-use crate::stream::Stream;
+use crate::stream::{PIECE, blank_counts};
 use hpe_find::{Finder, Found};
-use hpe_io::{Sink, Source};
+use hpe_io::{Intake, IntakeFault, Source};
+use hpe_slots::widen;
 
 /// Why an input was not taken to its end.
 #[derive(Clone, Copy, Debug, PartialEq, Eq)]
@@ -28,156 +28,103 @@ pub enum Untaken {
     TooLong,
 }
 
-/// How many octets to take at most, where there is room for so many and so many may be left.
-fn most_of(room: usize, left: u64) -> usize
-    requires { (0 < room) × (0 < left) }
-    ensures low { 0 < result }
-    ensures room { result ≤ room }
-    ensures left { result ≤ left }
+/// Feeds the marker search with octets, each of which is a count.
+fn feed(finder: &mut Finder, octets: &[u8])
+    requires most { length octets.now ≤ PIECE }
+    requires room { length finder.old.counts + length octets.now ≤ finder_room finder.old.parameters }
+    ensures { finder.new ≡ record finder.old { counts = finder.old.counts ++ octets.now } }
 {
-    if (room as u64) < left {
-        room
-    } else {
-        left as usize
-    }
+    let mut counts = blank_counts();
+    let counts = &mut counts[..octets.len()];
+    widen(octets, counts);
+    finder.feed(counts);
 }
 
-/// Feeds the marker search until it is settled or the input ends, and answers what it found. It takes at most one octet
-/// more than the limit, and doesn't feed that one.
+/// Feeds the marker search until it is settled or the input ends, and answers what it found.
 pub fn search<I: Source>(
     finder: &mut Finder,
-    buffer: &mut [u8],
-    limit: u64,
+    intake: &mut Intake,
     input: &mut I,
 ) -> Result<Found, Untaken>
-    requires new { finder.old.counts ≡ [] }
-    requires room { 0 < length buffer.old }
-    requires limit { (1 ≤ limit) × (limit ≤ 2 ^ 40) }
+    requires come { HasCome intake.old (I.left input.old) (I.left input.old) finder.old.counts }
+    requires within { intake.old.taken ≤ intake.old.limit }
     ensures profile { finder.new.parameters ≡ finder.old.parameters }
-    ensures buffer { length buffer.new ≡ length buffer.old }
-    ensures ok { IfOk result (λ found. (I.left input.old ≡ prepend_known finder.new.counts (I.left input.new)) × (length finder.new.counts ≤ limit)) }
-    ensures within { length finder.new.counts ≤ finder_room finder.old.parameters }
+    ensures limit { intake.new.limit ≡ intake.old.limit }
+    ensures come { OnOk result (HasCome intake.new (I.left input.old) (I.left input.new) finder.new.counts) }
+    ensures within { OnOk result (intake.new.taken ≤ intake.old.limit) }
+    ensures stopped { OnErr result (HasStopped intake.new (I.left input.old) (I.left input.new) finder.new.counts) }
+    ensures at_most { intake.new.taken ≤ intake.old.limit + 1 }
+    ensures room { length finder.new.counts ≤ finder_room finder.old.parameters }
     ensures settled { IfOk result (λ found. length finder.new.counts ≡ finder_room finder.old.parameters
         → (rest : List ℕ) → found ≡ found_of (offset_of finder.old.parameters (finder.new.counts ++ rest))) }
     ensures ended { IfOk result (λ found. length finder.new.counts < finder_room finder.old.parameters
         → IsAtEnd (I.left input.new) × (found ≡ found_of (offset_of finder.old.parameters finder.new.counts))) }
-    ensures cause { OnErr result ((IsErrOf result Untaken.Frames → ⊥) × (IsErrOf result Untaken.Report → ⊥)) }
-    ensures long { IsErrOf result Untaken.TooLong → TakesCount (I.left input.old) (I.left input.new) (limit + 1) }
-    ensures read { IsErrOf result Untaken.Read → Rose (I.faults input.old) (I.faults input.new) }
-    ensures taken { TakesAtMost (I.left input.old) (I.left input.new) (limit + 1) }
-    ensures later { I.faults input.old ≤ I.faults input.new }
-    ensures mark { I.mark input.new ≡ I.mark input.old }
-    ensures build { I.build input.new ≡ I.build input.old }
+    ensures long { IsErrOf result Untaken.TooLong → intake.new.taken ≡ intake.old.limit + 1 }
+    ensures cause { HasReadCause (I.faults input.old) (I.faults input.new) result }
+    ensures input { SourceStands I.faults I.mark I.build input.old input.new }
 {
-    let mut taken: u64 = 0;
     while finder.room() > 0 {
-        let most = most_of(buffer.len().min(finder.room()), limit + 1 - taken);
-        let count = match input.take(&mut buffer[..most]) {
-            Ok(count) => count,
-            Err(_) => return Err(Untaken::Read),
+        let more = match intake.next(input, finder.room().min(PIECE)) {
+            Ok(more) => more,
+            Err(IntakeFault::Read) => return Err(Untaken::Read),
+            Err(IntakeFault::TooLong) => return Err(Untaken::TooLong),
         };
-        if count == 0 {
+        if !more {
             return Ok(finder.finish());
         }
-        taken += count as u64;
-        if taken > limit {
-            return Err(Untaken::TooLong);
-        }
-        finder.feed(&buffer[..count]);
+        feed(finder, intake.piece());
     }
     Ok(finder.look())
 }
 
-/// Takes the rest of an input of which `taken` octets have come, and answers how many there are in all. It takes at most
-/// one octet more than the limit.
-pub fn count_rest<I: Source>(
-    buffer: &mut [u8],
-    taken: u64,
-    limit: u64,
-    input: &mut I,
-) -> Result<u64, Untaken>
-    requires room { 0 < length buffer.old }
-    requires limit { (taken ≤ limit) × (limit ≤ 2 ^ 40) }
-    ensures buffer { length buffer.new ≡ length buffer.old }
-    ensures ok { IfOk result (λ total. (rest : List ℕ) × ReadsAll (I.left input.old) (I.left input.new) rest × (total ≡ taken + length rest)) }
-    ensures within { IfOk result (λ total. total ≤ limit) }
-    ensures cause { OnErr result ((IsErrOf result Untaken.Frames → ⊥) × (IsErrOf result Untaken.Report → ⊥)) }
-    ensures long { IsErrOf result Untaken.TooLong → TakesCount (I.left input.old) (I.left input.new) (limit + 1 - taken) }
-    ensures read { IsErrOf result Untaken.Read → Rose (I.faults input.old) (I.faults input.new) }
-    ensures taken { TakesAtMost (I.left input.old) (I.left input.new) (limit + 1 - taken) }
-    ensures later { I.faults input.old ≤ I.faults input.new }
-    ensures mark { I.mark input.new ≡ I.mark input.old }
-    ensures build { I.build input.new ≡ I.build input.old }
+/// Takes the rest of an input.
+fn count_rest<I: Source>(intake: &mut Intake, input: &mut I) -> Result<(), Untaken>
+    requires within { intake.old.taken ≤ intake.old.limit }
+    ensures limit { intake.new.limit ≡ intake.old.limit }
+    ensures come { (start : _) (octets : _) → HasCome intake.old start (I.left input.old) octets
+        → OnOk result ((rest : List ℕ) × HasCome intake.new start (I.left input.new) (octets ++ rest)
+        × IsAtEnd (I.left input.new)) }
+    ensures stopped { (start : _) (octets : _) → HasCome intake.old start (I.left input.old) octets
+        → OnErr result ((rest : List ℕ) × HasStopped intake.new start (I.left input.new) (octets ++ rest)) }
+    ensures within { OnOk result (intake.new.taken ≤ intake.old.limit) }
+    ensures at_most { intake.new.taken ≤ intake.old.limit + 1 }
+    ensures long { IsErrOf result Untaken.TooLong → intake.new.taken ≡ intake.old.limit + 1 }
+    ensures cause { HasReadCause (I.faults input.old) (I.faults input.new) result }
+    ensures input { SourceStands I.faults I.mark I.build input.old input.new }
 {
-    let mut total = taken;
-    while total <= limit {
-        let most = most_of(buffer.len(), limit + 1 - total);
-        let count = match input.take(&mut buffer[..most]) {
-            Ok(count) => count,
-            Err(_) => return Err(Untaken::Read),
+    loop {
+        let more = match intake.next(input, PIECE) {
+            Ok(more) => more,
+            Err(IntakeFault::Read) => return Err(Untaken::Read),
+            Err(IntakeFault::TooLong) => return Err(Untaken::TooLong),
         };
-        if count == 0 {
-            return Ok(total);
+        if !more {
+            return Ok(());
         }
-        total += count as u64;
     }
-    Err(Untaken::TooLong)
 }
 
-/// The same, and the stream takes each octet within the limit.
-pub fn follow_rest<I: Source, O: Sink, R: Sink>(
-    stream: &mut Stream,
-    buffer: &mut [u8],
-    taken: u64,
-    limit: u64,
+/// Takes the rest of an input of which the search keeps the first counts, or all where it has room for more.
+pub fn count_all<I: Source>(
+    finder: &Finder,
+    intake: &mut Intake,
     input: &mut I,
-    frames: &mut O,
-    report: &mut R,
-) -> Result<u64, Untaken>
-    requires unspent { stream.old.course.outlet.scan.spent ≡ false }
-    requires few { stream.old.course.outlet.scan.blocks ≤ taken }
-    requires room { 0 < length buffer.old }
-    requires limit { (taken ≤ limit) × (limit ≤ 2 ^ 40) }
-    ensures profile { stream.new.course.parameters ≡ stream.old.course.parameters }
-    ensures buffer { length buffer.new ≡ length buffer.old }
-    ensures ok { (seen : _) (start : _) (begin : _) → HasTaken stream.old seen start (O.written frames.old) begin (R.written report.old)
-        → IfOk result (λ total. (rest : List ℕ) × ReadsAll (I.left input.old) (I.left input.new) rest × (total ≡ taken + length rest)
-        × HasTaken stream.new (seen ++ rest) start (O.written frames.new) begin (R.written report.new)) }
-    ensures within { IfOk result (λ total. total ≤ limit) }
-    ensures cut { (seen : _) (start : _) (begin : _) → HasTaken stream.old seen start (O.written frames.old) begin (R.written report.old)
-        → OnErr result ((rest : List ℕ) × (I.left input.old ≡ prepend_known rest (I.left input.new)) × (taken + length rest ≤ limit + 1)
-        × PutsPart stream.old.course.parameters (settled stream.old.course.parameters (seen ++ take (limit - taken) rest)) start (O.written frames.new) begin (R.written report.new)
-        × ((IsErrOf result Untaken.Report → ⊥) → (n : ℕ) × (R.written report.new ≡ append_known begin (word_lines 0 (take n (settled stream.old.course.parameters (seen ++ take (limit - taken) rest))))))) }
-    ensures long { IsErrOf result Untaken.TooLong → TakesCount (I.left input.old) (I.left input.new) (limit + 1 - taken) }
-    ensures read { IsErrOf result Untaken.Read → Rose (I.faults input.old) (I.faults input.new) }
-    ensures frames { IsErrOf result Untaken.Frames → Rose (O.faults frames.old) (O.faults frames.new) }
-    ensures report { IsErrOf result Untaken.Report → Rose (R.faults report.old) (R.faults report.new) }
-    ensures taken { TakesAtMost (I.left input.old) (I.left input.new) (limit + 1 - taken) }
-    ensures later { I.faults input.old ≤ I.faults input.new }
-    ensures frames_later { O.faults frames.old ≤ O.faults frames.new }
-    ensures report_later { R.faults report.old ≤ R.faults report.new }
-    ensures mark { I.mark input.new ≡ I.mark input.old }
-    ensures frames_mark { O.mark frames.new ≡ O.mark frames.old }
-    ensures report_mark { R.mark report.new ≡ R.mark report.old }
-    ensures build { I.build input.new ≡ I.build input.old }
+) -> Result<(), Untaken>
+    requires within { intake.old.taken ≤ intake.old.limit }
+    requires ended { UnlessSettled finder.now.parameters finder.now.counts (IsAtEnd (I.left input.old)) }
+    ensures limit { intake.new.limit ≡ intake.old.limit }
+    ensures ok { (start : _) → HasCome intake.old start (I.left input.old) finder.now.counts
+        → OnOk result ((rest : List ℕ) × HasEnded finder.now.parameters finder.now.counts rest intake.new
+        start (I.left input.new)) }
+    ensures cut { (start : _) → HasCome intake.old start (I.left input.old) finder.now.counts
+        → OnErr result ((rest : List ℕ) × HasBroken finder.now.parameters finder.now.counts rest intake.new
+        start (I.left input.new)) }
+    ensures long { IsErrOf result Untaken.TooLong → intake.new.taken ≡ intake.old.limit + 1 }
+    ensures cause { HasReadCause (I.faults input.old) (I.faults input.new) result }
+    ensures input { SourceStands I.faults I.mark I.build input.old input.new }
 {
-    let mut total = taken;
-    while total <= limit {
-        let most = most_of(buffer.len(), limit + 1 - total);
-        let count = match input.take(&mut buffer[..most]) {
-            Ok(count) => count,
-            Err(_) => return Err(Untaken::Read),
-        };
-        if count == 0 {
-            return Ok(total);
-        }
-        total += count as u64;
-        let whole = if total > limit { count - 1 } else { count };
-        match stream.take(&buffer[..whole], frames, report) {
-            Ok(()) => {}
-            Err(Cut::Frames) => return Err(Untaken::Frames),
-            Err(Cut::Report) => return Err(Untaken::Report),
-        }
+    if finder.room() > 0 {
+        return Ok(());
     }
-    Err(Untaken::TooLong)
+    count_rest(intake, input)
 }

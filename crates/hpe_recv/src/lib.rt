@@ -2,13 +2,17 @@
 //! marker search needs, what the channel interleaver delays, one word, one block and one frame.
 #![tactic(auto)]
 
+mod batch;
 mod course;
 mod intake;
+mod lines;
 mod outlet;
 mod receiver;
+mod reception;
 mod stream;
 #[cfg(test)]
 mod tests;
 mod words;
 
+pub use hpe_crew::{Gate, OpenGate};
 pub use receiver::{Receiver, RecvFault, Tally, held_limit};

@@ -1,12 +1,13 @@
-// Verdicts on their way out: frames to one sink, lines to the other.
-ghost use Rattle.std.specs.Prelude.{◌≡◌, ◌≤◌, ◌<◌, ◌+◌, ◌-◌, ◌*◌, ◌^◌, ◌++◌, ◌∷◌, [], ℕ, List, length, IfOk, IfSome, OnOk, OnErr, IsErrOf, false, option_copied};
+//! Verdicts on their way out: frames to one sink, lines to the other.
+ghost use Rattle.std.specs.Prelude.{◌≡◌, ◌≤◌, ◌<◌, ◌+◌, ◌-◌, ◌^◌, ◌++◌, ◌∷◌, [], ℕ, List, length, IfOk, IfSome, OnOk, OnErr, IsErrOf, false, option_copied};
 ghost use Rattle.std.specs.Io.KnownBytes.{append_known};
 ghost use Rattle.hpe_base.specs.Parameters.{block_bits};
 ghost use Rattle.hpe_base.specs.Decoded.{block_of, word_line, word_lines};
 ghost use Rattle.hpe_base.specs.Rounds.{Lost};
-ghost use Rattle.hpe_io.specs.Devices.{Rose, GrowsByFront};
+ghost use Rattle.hpe_io.specs.Standing.{SinkStands};
+ghost use Rattle.hpe_recv.specs.Causes.{HasCutCause};
 ghost use Rattle.hpe_recv.specs.Delivering.{HasDelivered, PutsPart};
-ghost use Rattle.hpe_recv.specs.Wording.{verdict_with};
+ghost use Rattle.hpe_crew.specs.Answering.{verdict_with};
 
 use hpe_base::{NoMemory, Profile};
 use hpe_frame::FrameScan;
@@ -103,18 +104,21 @@ impl Outlet {
         ensures profile { self.new.scan.parameters ≡ self.old.scan.parameters }
         ensures unspent { OnOk result (self.new.scan.spent ≡ false) }
         ensures blocks { self.new.scan.blocks ≡ self.old.scan.blocks + 1 }
-        ensures ok { (verdicts : _) (start : _) (begin : _) → HasDelivered self.old verdicts start (O.written frames.old) begin (R.written report.old)
-            → OnOk result (HasDelivered self.new (verdicts ++ verdict_with verdict block.now ∷ []) start (O.written frames.new) begin (R.written report.new)) }
-        ensures cut { (verdicts : _) (start : _) (begin : _) → HasDelivered self.old verdicts start (O.written frames.old) begin (R.written report.old)
-            → OnErr result (PutsPart self.old.scan.parameters (verdicts ++ verdict_with verdict block.now ∷ []) start (O.written frames.new) begin (R.written report.new)) }
-        ensures lines { (verdicts : _) (start : _) (begin : _) → HasDelivered self.old verdicts start (O.written frames.old) begin (R.written report.old)
+        ensures ok { (verdicts : _) (start : _) (begin : _) → HasDelivered self.old verdicts start
+            (O.written frames.old) begin (R.written report.old)
+            → OnOk result (HasDelivered self.new (verdicts ++ verdict_with verdict block.now ∷ []) start
+            (O.written frames.new) begin (R.written report.new)) }
+        ensures cut { (verdicts : _) (start : _) (begin : _)
+            → HasDelivered self.old verdicts start (O.written frames.old) begin (R.written report.old)
+            → OnErr result (PutsPart self.old.scan.parameters (verdicts
+            ++ verdict_with verdict block.now ∷ []) start (O.written frames.new) begin (R.written report.new)) }
+        ensures lines { (verdicts : _) (start : _) (begin : _)
+            → HasDelivered self.old verdicts start (O.written frames.old) begin (R.written report.old)
             → IsErrOf result Cut.Frames → R.written report.new ≡ append_known begin (word_lines 0 verdicts) }
-        ensures frames { IsErrOf result Cut.Frames → Rose (O.faults frames.old) (O.faults frames.new) }
-        ensures report { IsErrOf result Cut.Report → Rose (R.faults report.old) (R.faults report.new) }
-        ensures frames_later { O.faults frames.old ≤ O.faults frames.new }
-        ensures report_later { R.faults report.old ≤ R.faults report.new }
-        ensures frames_mark { O.mark frames.new ≡ O.mark frames.old }
-        ensures report_mark { R.mark report.new ≡ R.mark report.old }
+        ensures cause { HasCutCause (O.faults frames.old) (O.faults frames.new) (R.faults report.old)
+            (R.faults report.new) result }
+        ensures frames_stand { SinkStands O.faults O.mark frames.old frames.new }
+        ensures report_stands { SinkStands R.faults R.mark report.old report.new }
     {
         let known = kept_block(verdict, block);
         match self.scan.block(known, frames) {

@@ -1,29 +1,23 @@
-// The receiver of a link.
-ghost use Rattle.std.specs.Prelude.{◌≡◌, ◌≢◌, ◌<◌, ◌≤◌, ◌+◌, ◌-◌, ◌^◌, ◌++◌, [], ℕ, List, length, take, drop, IfOk, OnErr, IsErrOf, true, false};
-ghost use Rattle.std.specs.Io.KnownBytes.{prepend_known, append_known, IsAtEnd};
-ghost use Rattle.hpe_base.specs.Parameters.{period_slots};
-ghost use Rattle.hpe_base.specs.Decoded.{tally_of, tally_line, word_lines};
-ghost use Rattle.hpe_base.specs.MarkerSearch.{offset_of, At, Dark, Short};
-ghost use Rattle.hpe_io.specs.Devices.{Grows, HasCause, Puts, ReadsAll, Rose, TakesAtMost, TakesCount};
-ghost use Rattle.hpe_weave.specs.Unweaving.{HasUnwoven, held_after};
-ghost use Rattle.hpe_recv.specs.Delivering.{PutsPart};
-ghost use Rattle.hpe_recv.specs.Rows.{settled};
-ghost use Rattle.hpe_recv.specs.Streaming.{HasTaken};
-ghost use Rattle.hpe_recv.specs.Receiving.{held_limit, dark_line, tallied, fault_of, Receives, ReceivesPart, ReportsWords, UnlessSettled, IfNoMarker, IfCutOff, IfReportStands};
+//! The receiver of a link.
+ghost use Rattle.std.specs.Prelude.{◌≡◌, ◌≢◌, ◌≤◌, ◌+◌, ◌*◌, ◌^◌, ℕ, List, length, IfOk, IsErrOf, true, false};
+ghost use Rattle.hpe_base.specs.Decoded.{tally_of};
+ghost use Rattle.hpe_base.specs.MarkerSearch.{offset_of, Dark};
+ghost use Rattle.hpe_io.specs.Devices.{Grows, TakesAtMost, TakesCount};
+ghost use Rattle.hpe_io.specs.Standing.{SinkStands, SourceStands};
+ghost use Rattle.hpe_recv.specs.Causes.{HasFaultCause};
+ghost use Rattle.hpe_recv.specs.Receiving.{held_limit, tallied, fault_of, Receives, ReceivesPart, ReportsWords, IfNoMarker, IfCutOff, IfReportStands};
 
-use crate::intake::{Untaken, count_rest, follow_rest, search};
-use crate::outlet::Cut;
+use crate::intake::{Untaken, search};
+use crate::reception::{Reception, receive_dark, receive_short};
 use crate::stream::Stream;
 use hpe_base::{NoMemory, Profile, geometry};
+use hpe_crew::Gate;
 use hpe_find::{Finder, Found};
-use hpe_io::{Sink, Source};
-use hpe_text::{Line, push_entry};
+use hpe_io::{Intake, Sink, Source};
 use std::alloc::Global;
 use std::marker::Model;
+use std::thread::Threads;
 use thiserror::Error;
-
-/// The octets that are taken from the input at once.
-const PIECE: usize = 65_536;
 
 /// What was received.
 #[derive(Clone, Copy, Debug, PartialEq, Eq)]
@@ -77,272 +71,17 @@ impl From<Untaken> for RecvFault {
 }
 
 /// The most counts and sums that a receiver keeps: those that the marker search needs, those of a symbol, what the
-/// channel interleaver delays, and a word.
-pub fn held_limit(p: &Profile) -> u64
-    ensures { result ≡ held_limit p.now }
+/// channel interleaver delays, and a word for each worker.
+pub fn held_limit(p: &Profile, workers: u32) -> u64
+    requires { (1 ≤ workers) × (workers ≤ 16) }
+    ensures { result ≡ held_limit p.now workers }
 {
     let measures = geometry(p);
     let positions = p.order().slots();
     let searched = p.search() * measures.period + measures.marker_slots;
-    let waiting = positions * measures.depth / 2 + measures.symbols * positions;
+    let waiting = positions * measures.depth / 2
+        + workers as usize * (measures.symbols * positions);
     (searched + measures.symbol_slots + waiting) as u64
-}
-
-/// The line on a tally, with its line feed.
-fn tally_line(tally: &Tally) -> Line
-    ensures text { result.bytes ≡ tally_line (tallied tally.now) }
-    ensures some { 0 < length result.bytes }
-{
-    let mut line = Line::new();
-    push_entry(&mut line, "words ", tally.words);
-    push_entry(&mut line, " kept ", tally.kept);
-    push_entry(&mut line, " lost ", tally.lost);
-    push_entry(&mut line, " frames ", tally.frames);
-    push_entry(&mut line, " lead ", tally.lead);
-    push_entry(&mut line, " tail ", tally.tail);
-    line.push_str("\n");
-    line
-}
-
-/// The line on a stream without a marker, with its line feed.
-fn dark_line(counts: u64) -> Line
-    ensures text { result.bytes ≡ dark_line counts }
-    ensures some { 0 < length result.bytes }
-{
-    let mut line = Line::new();
-    push_entry(&mut line, "no marker in ", counts);
-    line.push_str(" slots\n");
-    line
-}
-
-/// Puts a line to the report.
-fn put_line<R: Sink>(line: &Line, report: &mut R) -> Result<(), Untaken>
-    requires some { 0 < length line.now.bytes }
-    ensures bytes { Puts (R.written report.old) (R.written report.new) result line.now.bytes }
-    ensures fault { OnErr result (IsErrOf result Untaken.Report) }
-    ensures cause { HasCause (R.faults report.old) (R.faults report.new) result }
-    ensures mark { R.mark report.new ≡ R.mark report.old }
-{
-    match report.put(line.as_bytes()) {
-        Ok(()) => Ok(()),
-        Err(_) => Err(Untaken::Report),
-    }
-}
-
-/// Gives the stream what the search keeps from the offset on, and then the rest of the input, and answers how many octets
-/// the input has in all.
-fn follow<I: Source, O: Sink, R: Sink>(
-    finder: &Finder,
-    stream: &mut Stream,
-    buffer: &mut [u8],
-    offset: usize,
-    limit: u64,
-    input: &mut I,
-    frames: &mut O,
-    report: &mut R,
-) -> Result<u64, Untaken>
-    requires stands { HasTaken stream.old [] (O.written frames.old) (O.written frames.old) (R.written report.old) (R.written report.old) }
-    requires unspent { stream.old.course.outlet.scan.spent ≡ false }
-    requires blocks { stream.old.course.outlet.scan.blocks ≡ 0 }
-    requires room { 0 < length buffer.old }
-    requires offset { offset ≤ length finder.now.counts }
-    requires limit { (length finder.now.counts ≤ limit) × (limit ≤ 2 ^ 40) }
-    requires ended { UnlessSettled finder.now.parameters finder.now.counts (IsAtEnd (I.left input.old)) }
-    ensures profile { stream.new.course.parameters ≡ stream.old.course.parameters }
-    ensures buffer { length buffer.new ≡ length buffer.old }
-    ensures ok { IfOk result (λ total. (rest : List ℕ) × ReadsAll (I.left input.old) (I.left input.new) rest
-        × UnlessSettled finder.now.parameters finder.now.counts (rest ≡ [])
-        × (total ≡ length finder.now.counts + length rest)
-        × HasTaken stream.new (drop offset finder.now.counts ++ rest) (O.written frames.old) (O.written frames.new) (R.written report.old) (R.written report.new)) }
-    ensures within { IfOk result (λ total. (length finder.now.counts ≤ total) × (total ≤ limit)) }
-    ensures cut { OnErr result ((rest : List ℕ) × (I.left input.old ≡ prepend_known rest (I.left input.new))
-        × UnlessSettled finder.now.parameters finder.now.counts (rest ≡ [])
-        × (length finder.now.counts + length rest ≤ limit + 1)
-        × PutsPart stream.old.course.parameters (settled stream.old.course.parameters (drop offset finder.now.counts ++ take (limit - length finder.now.counts) rest)) (O.written frames.old) (O.written frames.new) (R.written report.old) (R.written report.new)
-        × ((IsErrOf result Untaken.Report → ⊥) → (n : ℕ) × (R.written report.new ≡ append_known (R.written report.old) (word_lines 0 (take n (settled stream.old.course.parameters (drop offset finder.now.counts ++ take (limit - length finder.now.counts) rest))))))) }
-    ensures long { IsErrOf result Untaken.TooLong → TakesCount (I.left input.old) (I.left input.new) (limit + 1 - length finder.now.counts) }
-    ensures read { IsErrOf result Untaken.Read → Rose (I.faults input.old) (I.faults input.new) }
-    ensures frames { IsErrOf result Untaken.Frames → Rose (O.faults frames.old) (O.faults frames.new) }
-    ensures report { IsErrOf result Untaken.Report → Rose (R.faults report.old) (R.faults report.new) }
-    ensures taken { TakesAtMost (I.left input.old) (I.left input.new) (limit + 1 - length finder.now.counts) }
-    ensures later { I.faults input.old ≤ I.faults input.new }
-    ensures frames_later { O.faults frames.old ≤ O.faults frames.new }
-    ensures report_later { R.faults report.old ≤ R.faults report.new }
-    ensures mark { I.mark input.new ≡ I.mark input.old }
-    ensures frames_mark { O.mark frames.new ≡ O.mark frames.old }
-    ensures report_mark { R.mark report.new ≡ R.mark report.old }
-    ensures build { I.build input.new ≡ I.build input.old }
-{
-    let kept = finder.counts();
-    match stream.take(&kept[offset..], frames, report) {
-        Ok(()) => {}
-        Err(Cut::Frames) => return Err(Untaken::Frames),
-        Err(Cut::Report) => return Err(Untaken::Report),
-    }
-    let taken = kept.len() as u64;
-    if finder.room() > 0 {
-        return Ok(taken);
-    }
-    follow_rest(stream, buffer, taken, limit, input, frames, report)
-}
-
-/// Receives the words of a stream whose first marker begins at the offset.
-fn receive_words<I: Source, O: Sink, R: Sink>(
-    finder: &Finder,
-    stream: &mut Stream,
-    buffer: &mut [u8],
-    offset: u64,
-    period: u64,
-    limit: u64,
-    input: &mut I,
-    frames: &mut O,
-    report: &mut R,
-) -> Result<Tally, Untaken>
-    requires profile { stream.old.course.parameters ≡ finder.now.parameters }
-    requires stands { HasTaken stream.old [] (O.written frames.old) (O.written frames.old) (R.written report.old) (R.written report.old) }
-    requires unspent { stream.old.course.outlet.scan.spent ≡ false }
-    requires blocks { stream.old.course.outlet.scan.blocks ≡ 0 }
-    requires room { 0 < length buffer.old }
-    requires period { period ≡ period_slots finder.now.parameters }
-    requires limit { (length finder.now.counts ≤ limit) × (limit ≤ 2 ^ 40) }
-    requires ended { UnlessSettled finder.now.parameters finder.now.counts (IsAtEnd (I.left input.old)) }
-    requires found { (rest : List ℕ) → UnlessSettled finder.now.parameters finder.now.counts (rest ≡ [])
-        → (score : ℕ) × (offset_of finder.now.parameters (finder.now.counts ++ rest) ≡ At offset score) }
-    ensures profile { stream.new.course.parameters ≡ stream.old.course.parameters }
-    ensures buffer { length buffer.new ≡ length buffer.old }
-    ensures ok { IfOk result (λ tally. (counts : List ℕ)
-        × Receives finder.now.parameters limit (prepend_known finder.now.counts (I.left input.old)) (I.left input.new) (O.written frames.old) (O.written frames.new) (R.written report.old) (R.written report.new) counts
-        × (tallied tally ≡ tally_of finder.now.parameters counts)
-        × (offset_of finder.now.parameters counts ≢ Dark)) }
-    ensures cut { OnErr result (ReceivesPart finder.now.parameters limit (prepend_known finder.now.counts (I.left input.old)) (I.left input.new) (O.written frames.old) (O.written frames.new) (R.written report.old) (R.written report.new)) }
-    ensures lines { OnErr result ((IsErrOf result Untaken.Report → ⊥)
-        → ReportsWords finder.now.parameters limit (prepend_known finder.now.counts (I.left input.old)) (I.left input.new) (R.written report.old) (R.written report.new)) }
-    ensures long { IsErrOf result Untaken.TooLong → TakesCount (I.left input.old) (I.left input.new) (limit + 1 - length finder.now.counts) }
-    ensures read { IsErrOf result Untaken.Read → Rose (I.faults input.old) (I.faults input.new) }
-    ensures frames { IsErrOf result Untaken.Frames → Rose (O.faults frames.old) (O.faults frames.new) }
-    ensures report { IsErrOf result Untaken.Report → Rose (R.faults report.old) (R.faults report.new) }
-    ensures taken { TakesAtMost (I.left input.old) (I.left input.new) (limit + 1 - length finder.now.counts) }
-    ensures later { I.faults input.old ≤ I.faults input.new }
-    ensures frames_later { O.faults frames.old ≤ O.faults frames.new }
-    ensures report_later { R.faults report.old ≤ R.faults report.new }
-    ensures mark { I.mark input.new ≡ I.mark input.old }
-    ensures frames_mark { O.mark frames.new ≡ O.mark frames.old }
-    ensures report_mark { R.mark report.new ≡ R.mark report.old }
-    ensures build { I.build input.new ≡ I.build input.old }
-{
-    let total = follow(
-        finder,
-        stream,
-        buffer,
-        offset as usize,
-        limit,
-        input,
-        frames,
-        report,
-    )?;
-    let outlet = stream.outlet();
-    let tally = Tally {
-        words: outlet.words(),
-        kept: outlet.kept(),
-        lost: outlet.words() - outlet.kept(),
-        frames: outlet.frames(),
-        lead: offset,
-        tail: (total - offset) % period,
-    };
-    put_line(&tally_line(&tally), report)?;
-    Ok(tally)
-}
-
-/// Counts an input of which the search keeps the first octets, or all where it has room for more.
-fn count_all<I: Source>(
-    finder: &Finder,
-    buffer: &mut [u8],
-    limit: u64,
-    input: &mut I,
-) -> Result<u64, Untaken>
-    requires room { 0 < length buffer.old }
-    requires limit { (length finder.now.counts ≤ limit) × (limit ≤ 2 ^ 40) }
-    requires ended { UnlessSettled finder.now.parameters finder.now.counts (IsAtEnd (I.left input.old)) }
-    ensures buffer { length buffer.new ≡ length buffer.old }
-    ensures ok { IfOk result (λ total. (rest : List ℕ) × ReadsAll (I.left input.old) (I.left input.new) rest
-        × UnlessSettled finder.now.parameters finder.now.counts (rest ≡ [])
-        × (total ≡ length finder.now.counts + length rest)) }
-    ensures within { IfOk result (λ total. total ≤ limit) }
-    ensures cause { OnErr result ((IsErrOf result Untaken.Frames → ⊥) × (IsErrOf result Untaken.Report → ⊥)) }
-    ensures long { IsErrOf result Untaken.TooLong → TakesCount (I.left input.old) (I.left input.new) (limit + 1 - length finder.now.counts) }
-    ensures read { IsErrOf result Untaken.Read → Rose (I.faults input.old) (I.faults input.new) }
-    ensures taken { TakesAtMost (I.left input.old) (I.left input.new) (limit + 1 - length finder.now.counts) }
-    ensures later { I.faults input.old ≤ I.faults input.new }
-    ensures mark { I.mark input.new ≡ I.mark input.old }
-    ensures build { I.build input.new ≡ I.build input.old }
-{
-    let kept = finder.counts().len() as u64;
-    if finder.room() > 0 {
-        return Ok(kept);
-    }
-    count_rest(buffer, kept, limit, input)
-}
-
-/// Receives a stream without a marker, and answers how many counts it has.
-fn receive_dark<I: Source, R: Sink>(
-    finder: &Finder,
-    buffer: &mut [u8],
-    limit: u64,
-    input: &mut I,
-    report: &mut R,
-) -> Result<u64, Untaken>
-    requires room { 0 < length buffer.old }
-    requires limit { (length finder.now.counts ≤ limit) × (limit ≤ 2 ^ 40) }
-    requires ended { UnlessSettled finder.now.parameters finder.now.counts (IsAtEnd (I.left input.old)) }
-    requires found { (rest : List ℕ) → UnlessSettled finder.now.parameters finder.now.counts (rest ≡ [])
-        → offset_of finder.now.parameters (finder.now.counts ++ rest) ≡ Dark }
-    ensures buffer { length buffer.new ≡ length buffer.old }
-    ensures ok { (written : _) → IfOk result (λ total. (counts : List ℕ)
-        × Receives finder.now.parameters limit (prepend_known finder.now.counts (I.left input.old)) (I.left input.new) written written (R.written report.old) (R.written report.new) counts
-        × (total ≡ length counts)
-        × (offset_of finder.now.parameters counts ≡ Dark)) }
-    ensures cut { (written : _) → OnErr result (ReceivesPart finder.now.parameters limit (prepend_known finder.now.counts (I.left input.old)) (I.left input.new) written written (R.written report.old) (R.written report.new)) }
-    ensures lines { OnErr result ((IsErrOf result Untaken.Report → ⊥)
-        → ReportsWords finder.now.parameters limit (prepend_known finder.now.counts (I.left input.old)) (I.left input.new) (R.written report.old) (R.written report.new)) }
-    ensures cause { IsErrOf result Untaken.Frames → ⊥ }
-    ensures long { IsErrOf result Untaken.TooLong → TakesCount (I.left input.old) (I.left input.new) (limit + 1 - length finder.now.counts) }
-    ensures read { IsErrOf result Untaken.Read → Rose (I.faults input.old) (I.faults input.new) }
-    ensures report { IsErrOf result Untaken.Report → Rose (R.faults report.old) (R.faults report.new) }
-    ensures taken { TakesAtMost (I.left input.old) (I.left input.new) (limit + 1 - length finder.now.counts) }
-    ensures later { I.faults input.old ≤ I.faults input.new }
-    ensures report_later { R.faults report.old ≤ R.faults report.new }
-    ensures mark { I.mark input.new ≡ I.mark input.old }
-    ensures report_mark { R.mark report.new ≡ R.mark report.old }
-    ensures build { I.build input.new ≡ I.build input.old }
-{
-    let total = count_all(finder, buffer, limit, input)?;
-    put_line(&dark_line(total), report)?;
-    Ok(total)
-}
-
-/// Receives a stream that is shorter than a period and has ended.
-fn receive_short<R: Sink>(finder: &Finder, report: &mut R) -> Result<Tally, Untaken>
-    requires found { offset_of finder.now.parameters finder.now.counts ≡ Short }
-    ensures ok { (limit : _) (left : _) (written : _) → length finder.now.counts ≤ limit → IsAtEnd left → IfOk result (λ tally.
-        Receives finder.now.parameters limit (prepend_known finder.now.counts left) left written written (R.written report.old) (R.written report.new) finder.now.counts
-        × (tallied tally ≡ tally_of finder.now.parameters finder.now.counts)
-        × (offset_of finder.now.parameters finder.now.counts ≢ Dark)) }
-    ensures cut { (limit : _) (left : _) (written : _) → length finder.now.counts ≤ limit
-        → OnErr result (ReceivesPart finder.now.parameters limit (prepend_known finder.now.counts left) left written written (R.written report.old) (R.written report.new)) }
-    ensures fault { OnErr result (IsErrOf result Untaken.Report) }
-    ensures cause { HasCause (R.faults report.old) (R.faults report.new) result }
-    ensures mark { R.mark report.new ≡ R.mark report.old }
-{
-    let tally = Tally {
-        words: 0,
-        kept: 0,
-        lost: 0,
-        frames: 0,
-        lead: 0,
-        tail: finder.counts().len() as u64,
-    };
-    put_line(&tally_line(&tally), report)?;
-    Ok(tally)
 }
 
 /// The receiver of a link: it reads the counts of slots, one octet for each slot, and writes transfer frames and a report.
@@ -351,11 +90,7 @@ fn receive_short<R: Sink>(finder: &Finder, report: &mut R) -> Result<Tally, Unta
 /// frame, whatever the length of the input.
 #[derive(Drop)]
 pub struct Receiver {
-    finder: Finder,
-    stream: Stream,
-    buffer: Vec<u8>,
-    /// The slots of a period.
-    period: u64,
+    reception: Reception,
     fresh: bool,
 }
 
@@ -373,20 +108,25 @@ impl Model for Receiver {
 
 impl Receiver {
     /// A receiver that has received nothing. It takes all its memory here, and the error is that there is too little.
-    pub fn new(alloc: Global, p: &Profile) -> Result<Receiver, NoMemory>
+    pub fn new(alloc: Global, p: &Profile, workers: u32) -> Result<Receiver, NoMemory>
+        requires workers { (1 ≤ workers) × (workers ≤ 16) }
         ensures profile { IfOk result (λ r. r.parameters ≡ p.now) }
+        ensures workers { IfOk result (λ r. r.workers ≡ workers) }
         ensures fresh { IfOk result (λ r. r.fresh ≡ true) }
     {
         let finder = Finder::new(alloc, p)?;
-        let stream = Stream::new(alloc, p)?;
-        let Ok(buffer) = vec![in alloc; 0; PIECE] else {
+        let stream = Stream::new(alloc, p, workers)?;
+        let Ok(intake) = Intake::new(alloc) else {
             return Err(NoMemory);
         };
         Ok(Receiver {
-            finder,
-            stream,
-            buffer,
-            period: geometry(p).period as u64,
+            reception: Reception {
+                finder,
+                intake,
+                stream,
+                period: geometry(p).period as u64,
+                lead: 0,
+            },
             fresh: true,
         })
     }
@@ -399,79 +139,86 @@ impl Receiver {
     }
 
     /// The number of counts and slot sums that the receiver keeps: those of the marker search, those of the symbol that is
-    /// begun, what waits in the channel interleaver, and the word that is begun.
+    /// begun, what waits in the channel interleaver, and the words that are loaded or begun.
     pub fn held(&self) -> u64
-        ensures value { (rows : _) → HasUnwoven self.now.unweaver rows
-            → result ≡ length self.now.counts + (length self.now.begun + (held_after self.now.unweaver.parameters (length rows) + length self.now.sums)) }
-        ensures most { result ≤ held_limit self.now.parameters }
+        ensures value { result ≡ self.now.counts + (self.now.begun + (self.now.waiting + self.now.sums)) }
+        ensures most { result ≤ held_limit self.now.parameters self.now.workers }
     {
-        self.finder.counts().len() as u64 + self.stream.held()
+        self.reception.finder.counts().len() as u64 + self.reception.stream.held()
     }
 
     /// Receives a stream of up to `limit` counts: it puts the transfer frames that are delivered to `frames`, and to
     /// `report` a line for each word and one for the tally, which it answers.
     ///
     /// The frames of a word are put before its line, and each line in one piece.
-    pub fn receive<I: Source, O: Sink, R: Sink>(
+    pub fn receive<T: Threads + Sync, G: Gate, I: Source, O: Sink, R: Sink>(
         &mut self,
+        rt: &T,
+        gate: &G,
         limit: u64,
         input: &mut I,
         frames: &mut O,
         report: &mut R,
     ) -> Result<Tally, RecvFault>
         requires fresh { self.old.fresh ≡ true }
+        requires one { self.old.parameters.count_octets ≡ 1 }
         requires limit { (1 ≤ limit) × (limit ≤ 2 ^ 40) }
         ensures profile { self.new.parameters ≡ self.old.parameters }
         ensures spent { self.new.fresh ≡ false }
         ensures ok { IfOk result (λ tally. (counts : List ℕ)
-            × Receives self.old.parameters limit (I.left input.old) (I.left input.new) (O.written frames.old) (O.written frames.new) (R.written report.old) (R.written report.new) counts
+            × Receives self.old.parameters limit (I.left input.old) (I.left input.new)
+            (O.written frames.old) (O.written frames.new) (R.written report.old) (R.written report.new) counts
             × (tallied tally ≡ tally_of self.old.parameters counts)
             × (offset_of self.old.parameters counts ≢ Dark)) }
         ensures no_marker { IfNoMarker result (λ n. (counts : List ℕ)
-            × Receives self.old.parameters limit (I.left input.old) (I.left input.new) (O.written frames.old) (O.written frames.new) (R.written report.old) (R.written report.new) counts
+            × Receives self.old.parameters limit (I.left input.old) (I.left input.new)
+            (O.written frames.old) (O.written frames.new) (R.written report.old) (R.written report.new) counts
             × (n ≡ length counts)
             × (offset_of self.old.parameters counts ≡ Dark)
             × (frames.new ≡ frames.old)) }
-        ensures cut { IfCutOff result (ReceivesPart self.old.parameters limit (I.left input.old) (I.left input.new) (O.written frames.old) (O.written frames.new) (R.written report.old) (R.written report.new)) }
-        ensures lines { IfReportStands result (ReportsWords self.old.parameters limit (I.left input.old) (I.left input.new) (R.written report.old) (R.written report.new)) }
+        ensures cut { IfCutOff result (ReceivesPart self.old.parameters limit (I.left input.old) (I.left input.new)
+            (O.written frames.old) (O.written frames.new) (R.written report.old) (R.written report.new)) }
+        ensures lines { IfReportStands result (ReportsWords self.old.parameters limit (I.left input.old)
+            (I.left input.new)
+            (R.written report.old) (R.written report.new)) }
         ensures long { IsErrOf result RecvFault.TooLong → TakesCount (I.left input.old) (I.left input.new) (limit + 1) }
-        ensures read { IsErrOf result RecvFault.Read → Rose (I.faults input.old) (I.faults input.new) }
-        ensures write { IsErrOf result RecvFault.Write → Rose (O.faults frames.old) (O.faults frames.new) }
-        ensures report { IsErrOf result RecvFault.Report → Rose (R.faults report.old) (R.faults report.new) }
+        ensures cause { HasFaultCause (I.faults input.old) (I.faults input.new) (O.faults frames.old)
+            (O.faults frames.new)
+            (R.faults report.old) (R.faults report.new) result }
         ensures taken { TakesAtMost (I.left input.old) (I.left input.new) (limit + 1) }
         ensures frames_grow { Grows (O.written frames.old) (O.written frames.new) }
         ensures report_grows { Grows (R.written report.old) (R.written report.new) }
-        ensures input_later { I.faults input.old ≤ I.faults input.new }
-        ensures frames_later { O.faults frames.old ≤ O.faults frames.new }
-        ensures report_later { R.faults report.old ≤ R.faults report.new }
-        ensures input_mark { I.mark input.new ≡ I.mark input.old }
-        ensures frames_mark { O.mark frames.new ≡ O.mark frames.old }
-        ensures report_mark { R.mark report.new ≡ R.mark report.old }
-        ensures build { I.build input.new ≡ I.build input.old }
+        ensures input_stands { SourceStands I.faults I.mark I.build input.old input.new }
+        ensures frames_stand { SinkStands O.faults O.mark frames.old frames.new }
+        ensures report_stands { SinkStands R.faults R.mark report.old report.new }
     {
         self.fresh = false;
-        let found = search(&mut self.finder, &mut self.buffer, limit, input)?;
+        self.reception.intake.begin(limit);
+        let found = search(
+            &mut self.reception.finder,
+            &mut self.reception.intake,
+            input,
+        )?;
         match found {
             Found::At { offset, .. } => {
-                let tally = receive_words(
-                    &self.finder,
-                    &mut self.stream,
-                    &mut self.buffer,
-                    offset,
-                    self.period,
-                    limit,
-                    input,
-                    frames,
-                    report,
-                )?;
+                self.reception.lead = offset;
+                let tally = self
+                    .reception
+                    .receive_words(rt, gate, input, frames, report)?;
                 Ok(tally)
             }
             Found::Dark => {
-                let counts = receive_dark(&self.finder, &mut self.buffer, limit, input, report)?;
+                let counts = receive_dark(
+                    &self.reception.finder,
+                    &mut self.reception.intake,
+                    input,
+                    report,
+                )?;
                 Err(RecvFault::NoMarker { counts })
             }
+            // the search needs no more, since it is settled or the input has ended
             Found::Short | Found::Need => {
-                let tally = receive_short(&self.finder, report)?;
+                let tally = receive_short(&self.reception.finder, report)?;
                 Ok(tally)
             }
         }

@@ -1,10 +1,11 @@
-ghost use Rattle.std.specs.Prelude.{◌<◌, ◌≤◌, ◌^◌};
+ghost use Rattle.std.specs.Prelude.{◌≡◌, ◌<◌, ◌≤◌, ◌^◌};
 
-use crate::{Receiver, RecvFault, Tally, held_limit};
+use crate::{OpenGate, Receiver, RecvFault, Tally, held_limit};
 use hpe_base::{Fields, Profile};
 use hpe_io::{MemSink, MemSource, SureSource};
 use std::alloc::Global;
 use std::test::Fail;
+use std::thread::Threads;
 
 /// More counts than any test has.
 const LIMIT: u64 = 2_000_000;
@@ -29,21 +30,25 @@ struct Received {
 }
 
 /// Receives counts.
-fn receive(
+fn receive<T: Threads + Sync>(
+    rt: &T,
     alloc: Global,
     p: &Profile,
+    workers: u32,
     counts: &[u8],
     piece: u32,
     limit: u64,
 ) -> Result<Received, Fail>
+    requires one { p.now.count_octets ≡ 1 }
+    requires workers { (1 ≤ workers) × (workers ≤ 16) }
     requires piece { 0 < piece }
     requires limit { (1 ≤ limit) × (limit ≤ 2 ^ 40) }
 {
     let mut input = SureSource::new(alloc, counts, &[piece])?;
-    let mut receiver = Receiver::new(alloc, p)?;
+    let mut receiver = Receiver::new(alloc, p, workers)?;
     let mut frames = MemSink::new(alloc, 1_000, &[])?;
     let mut report = MemSink::new(alloc, 1_000, &[])?;
-    let ended = receiver.receive(limit, &mut input, &mut frames, &mut report);
+    let ended = receiver.receive(rt, &OpenGate, limit, &mut input, &mut frames, &mut report);
     Ok(Received {
         ended,
         frames,
@@ -52,32 +57,24 @@ fn receive(
     })
 }
 
-/// The profile with the largest sums: order 4, each symbol sent 32 times.
-fn largest_sums() -> Result<Profile, Fail> {
+/// A profile of order 4, with a period of 37,880 slots for each time that a symbol is sent.
+fn order_4(repeat: i64, rounds: i64) -> Result<Profile, Fail> {
     let p = Profile::new(&Fields {
         order: 4,
-        rate: "1/3",
-        frame_octets: 100,
-        frame_marker: 0x1ACF_FC1D,
-        taps: 169,
-        seed: 255,
-        check: 537_149_449,
-        columns: "111",
-        rows: 1,
-        delay: 1,
         marker: &[0, 1, 3, 2, 2, 3, 1, 0, 0, 1, 3, 2, 2, 3, 1, 0],
-        repeat: 32,
-        rounds: 16,
-        search: 1,
+        repeat,
+        rounds,
+        ..Fields::basic()
     })?;
     Ok(p)
 }
 
 #[test]
 fn all_counts_at_their_greatest(rt: HostRuntime) -> Result<(), Fail> {
-    let p = largest_sums()?;
+    let p = order_4(32, 16)?;
+    assert_eq!(rt; p.count_octets(), 1);
     let counts = vec![in rt.alloc(); 255u8; 1_212_160]?;
-    let received = receive(rt.alloc(), &p, &counts, 65_536, LIMIT)?;
+    let received = receive(&rt, rt.alloc(), &p, 1, &counts, 65_536, LIMIT)?;
     let tally = Tally {
         words: 1,
         lost: 1,
@@ -88,7 +85,7 @@ fn all_counts_at_their_greatest(rt: HostRuntime) -> Result<(), Fail> {
     let report = "word 0 lost\nwords 1 kept 0 lost 1 frames 0 lead 0 tail 0\n";
     assert!(rt; received.report.bytes() == report.as_bytes());
     assert_eq!(rt; received.held, 1_212_160);
-    assert_eq!(rt; held_limit(&p), 1_245_120);
+    assert_eq!(rt; held_limit(&p, 1), 1_245_120);
     Ok(())
 }
 
@@ -111,7 +108,7 @@ fn dark_counts(rt: HostRuntime) -> Result<(), Fail> {
         (75_920, 75_919, Err(RecvFault::TooLong), ""),
     ] {
         let counts = vec![in rt.alloc(); 0u8; count]?;
-        let received = receive(rt.alloc(), &p, &counts, 7, limit)?;
+        let received = receive(&rt, rt.alloc(), &p, 16, &counts, 7, limit)?;
         assert_eq!(rt; received.ended, ended);
         assert!(rt; received.frames.bytes().is_empty());
         assert!(rt; received.report.bytes() == line.as_bytes());
@@ -121,13 +118,72 @@ fn dark_counts(rt: HostRuntime) -> Result<(), Fail> {
 
 #[test]
 fn received_once(rt: HostRuntime) -> Result<(), Fail> {
-    let mut receiver = Receiver::new(rt.alloc(), &Profile::basic())?;
+    let mut receiver = Receiver::new(rt.alloc(), &Profile::basic(), 2)?;
     assert!(rt; receiver.fresh() && receiver.held() == 0);
     let mut input = MemSource::new(rt.alloc(), &[0, 0, 0], &[1], &[2])?;
     let mut frames = MemSink::new(rt.alloc(), 0, &[])?;
     let mut report = MemSink::new(rt.alloc(), 0, &[])?;
-    let ended = receiver.receive(LIMIT, &mut input, &mut frames, &mut report);
+    let ended = receiver.receive(&rt, &OpenGate, LIMIT, &mut input, &mut frames, &mut report);
     assert_eq!(rt; ended, Err(RecvFault::Read));
     assert!(rt; !receiver.fresh() && receiver.held() == 2);
+    Ok(())
+}
+
+#[test]
+fn any_cutting_and_number_of_workers(rt: HostRuntime) -> Result<(), Fail> {
+    let p = order_4(1, 1)?;
+    assert_eq!(rt; p.count_octets(), 1);
+    let counts = vec![in rt.alloc(); 255u8; 3 * 37_880 + 7]?;
+    let tally = Tally {
+        words: 3,
+        lost: 3,
+        tail: 7,
+        ..NO_WORD
+    };
+    let report =
+        "word 0 lost\nword 1 lost\nword 2 lost\nwords 3 kept 0 lost 3 frames 0 lead 0 tail 7\n";
+    for (piece, workers) in [(7, 2), (1_000, 1), (1_000, 16), (65_536, 2)] {
+        assert!(rt; 1 <= workers);
+        assert!(rt; workers <= 16);
+        assert!(rt; 0 < piece);
+        let received = receive(&rt, rt.alloc(), &p, workers, &counts, piece, LIMIT)?;
+        assert_eq!(rt; received.ended, Ok(tally));
+        assert!(rt; received.report.bytes() == report.as_bytes());
+        assert!(rt; received.held <= held_limit(&p, workers));
+    }
+    Ok(())
+}
+
+#[test]
+fn takes_that_fail(rt: HostRuntime) -> Result<(), Fail> {
+    let p = order_4(1, 1)?;
+    assert_eq!(rt; p.count_octets(), 1);
+    // of pieces of 5,000 counts the search takes eight, and the first word is whole with them
+    for (count, failing, report) in [
+        (255, 1, ""),
+        (255, 7, ""),
+        (255, 8, "word 0 lost\n"),
+        (255, 10, "word 0 lost\n"),
+        (0, 1, ""),
+        (0, 10, ""),
+    ] {
+        let counts = vec![in rt.alloc(); count; 2 * 37_880]?;
+        let mut receiver = Receiver::new(rt.alloc(), &p, 1)?;
+        let mut input = MemSource::new(rt.alloc(), &counts, &[5_000], &[failing])?;
+        let mut frames = MemSink::new(rt.alloc(), 0, &[])?;
+        let mut told = MemSink::new(rt.alloc(), 100, &[])?;
+        let ended = receiver.receive(&rt, &OpenGate, LIMIT, &mut input, &mut frames, &mut told);
+        assert_eq!(rt; ended, Err(RecvFault::Read));
+        assert!(rt; told.bytes() == report.as_bytes());
+    }
+    Ok(())
+}
+
+#[test]
+fn bounds_of_what_is_held(rt: HostRuntime) -> Result<(), Fail> {
+    let p = Profile::basic();
+    for (workers, limit) in [(1, 136_740), (16, 1_043_940)] {
+        assert_eq!(rt; held_limit(&p, workers), limit);
+    }
     Ok(())
 }

@@ -1,8 +1,7 @@
 -- Bits and octets that went through the stages of the sender, and the end of a stream.
-use Rattle.std.proofs.Common.{◌≡◌, ◌≢◌, ◌<◌, ◌+◌, ◌*◌, ◌/◌, ◌++◌, ◌↔◌, ◌==◌, ℕ, Bool, true, false, List, [], Result, Ok, Err, OnOk, OnErr, ap, sym, ◌∙◌, refl, subst, arith, append-nil, inl, inr, if◌then◌else◌}
+use Rattle.std.proofs.Common.{◌≡◌, ◌≢◌, ◌<◌, ◌+◌, ◌*◌, ◌/◌, ◌++◌, ◌↔◌, ◌==◌, ℕ, Bool, true, false, List, [], Result, Ok, Err, OnOk, ap, sym, ◌∙◌, refl, subst, arith, inl, inr, if◌then◌else◌}
 use Rattle.std.specs.Prelude.{IsTrue}
 use Rattle.std.specs.declared.option.Option.{Option}
-use Rattle.std.specs.Io.KnownBytes.{append_known}
 use Rattle.std.proofs.lemmas.Nat.{div-mul-add}
 use Rattle.std.proofs.lemmas.Bool.{cases_eq, eq-eqb, ne_eqb}
 use Rattle.hpe_base.specs.Bits.{zeros}
@@ -11,19 +10,17 @@ use Rattle.hpe_base.specs.Parameters.{Parameters, block_bits, codeword_symbols}
 use Rattle.hpe_base.specs.Frames.{bit_stream, frame_bits}
 use Rattle.hpe_base.specs.Slicer.{block_count}
 use Rattle.hpe_base.specs.Codeword.{word_symbols}
-use Rattle.hpe_base.specs.Slots.{slots_to, slots_of, sent_symbols, period_count, flush_words}
+use Rattle.hpe_base.specs.Slots.{octets_to, slots_of, sent_symbols, period_count, flush_words}
+use Rattle.hpe_base.proofs.Shapes.{length-joined-word_symbols}
+use Rattle.hpe_base.proofs.ParameterLemmas.{block_bits-pos}
 use Rattle.hpe_block.specs.Slicing.{HasSliced}
 use Rattle.hpe_frame.specs.Feeding.{HasFed}
-use Rattle.hpe_io.specs.Devices.{GrowsByFront, Puts}
 use Rattle.hpe_send.specs.Chaining.{Chaining, HasPushed, HasTaken}
 use Rattle.hpe_send.specs.Coding.{Coding, HasCoded}
-use Rattle.hpe_send.specs.Outgoing.{IsPending}
 use Rattle.hpe_send.specs.Streaming.{word_count, words_of}
 use Rattle.hpe_send.proofs.Coded.{coded_same, slots-none}
-use Rattle.hpe_send.proofs.Fronts.{IsFront}
-use Rattle.hpe_send.proofs.Pending.{pending_flushed, pending_cut, grows_same}
+use Rattle.hpe_io.proofs.Fronts.{IsFront}
 use Rattle.hpe_send.proofs.Slotted.{slots_front}
-use Rattle.hpe_send.proofs.Worded.{length-words, block_bits-pos}
 
 -- what an answer of false says
 pub refuted : (b : Bool) (m : ℕ) → b ≡ false → (IsTrue b ↔ (m ≡ 0)) → m ≢ 0
@@ -36,8 +33,8 @@ none_begun b m f e =
       | inr some ↦ (let t : b ≡ true = e.1 (omega arith) in absurd cc)
     ]
 
-pub slots_same : (p : Parameters) (n n' : ℕ) (symbols symbols' : List ℕ) → n ≡ n' → symbols ≡ symbols' → slots_to p n symbols ≡ slots_to p n' symbols'
-slots_same p n n' symbols symbols' count list = ap (λ k. slots_to p k symbols) count ∙ ap (slots_to p n') list
+pub slots_same : (p : Parameters) (n n' : ℕ) (symbols symbols' : List ℕ) → n ≡ n' → symbols ≡ symbols' → octets_to p n symbols ≡ octets_to p n' symbols'
+slots_same p n n' symbols symbols' count list = ap (λ k. octets_to p k symbols) count ∙ ap (octets_to p n') list
 
 pub coded_ok_same : {T E : Type 0} (result : Result T E) (c : Coding) (n n' : ℕ) (symbols symbols' : List ℕ) (start now : Option (List ℕ)) → n ≡ n' → symbols ≡ symbols'
     → OnOk result (HasCoded c n symbols start now) → OnOk result (HasCoded c n' symbols' start now)
@@ -81,28 +78,17 @@ stream-none p some = ap (λ n. joined n (frame_bits p [])) (sym (nothing p.frame
 
 words-none : (p : Parameters) → [] ≡ words_of p []
 unfolding words_of joined
-words-none p = ap (λ n. joined n (word_symbols p [])) (sym (nothing (block_bits p.rate) (block_bits-pos p)))
+words-none p = ap (λ n. joined n (word_symbols p [])) (sym (nothing (block_bits p.rate) (block_bits-pos p.rate)))
 
 pub taken_none : (c : Chaining) (start : Option (List ℕ)) → HasFed c.feed [] → HasSliced c.slicer [] → HasCoded c.coder 0 [] start start → HasTaken c [] start start
 taken_none c start fed sliced coded =
     let p = c.coder.parameters in
-    taken_more c p [] [] start start refl (stream-none p coded.valid.frame_low) fed
-    (pushed_more c p 0 [] [] start start refl (sym (nothing (block_bits p.rate) (block_bits-pos p))) (words-none p) sliced coded)
-
--- what is put of what is held
-pub put_ok : {T E : Type 0} (result : Result T E) (start now new : Option (List ℕ)) (held all all' : List ℕ) → all ≡ all' → IsPending start now held all
-    → Puts now new result held → OnOk result (new ≡ append_known start all')
-put_ok (Ok v) start now new held all all' e h put = pending_flushed start now new held all h put ∙ ap (append_known start) e
-put_ok (Err v) start now new held all all' e h put = tt
-
-pub put_err : {T E : Type 0} (result : Result T E) (start now new : Option (List ℕ)) (held all all' : List ℕ) → all ≡ all' → IsPending start now held all
-    → Puts now new result held → OnErr result (GrowsByFront start new all')
-put_err (Ok v) start now new held all all' e h put = tt
-put_err (Err v) start now new held all all' e h put = grows_same start new (all ++ []) all' (append-nil all ∙ e) (pending_cut start now new held all [] h put)
+    taken_more c p [] [] start start refl (stream-none p coded.valid.range.frame_low) fed
+    (pushed_more c p 0 [] [] start start refl (sym (nothing (block_bits p.rate) (block_bits-pos p.rate))) (words-none p) sliced coded)
 
 -- the end of a stream of whole frames, where count periods flush the channel interleaver
 module _ (p : Parameters) (octets : List ℕ) (count words : ℕ) (flush : count ≡ (if words == 0 then 0 else flush_words p)) (all : words ≡ block_count p octets) where
-  pub slots_all : slots_to p (block_count p octets + count) (joined (block_count p octets) (word_symbols p (bit_stream p octets)) ++ zeros (count * codeword_symbols p.order))
+  pub slots_all : octets_to p (block_count p octets + count) (joined (block_count p octets) (word_symbols p (bit_stream p octets)) ++ zeros (count * codeword_symbols p.order))
       ≡ slots_of p octets
   unfolding slots_of
   slots_all =
@@ -116,8 +102,8 @@ module _ (p : Parameters) (octets : List ℕ) (count words : ℕ) (flush : count
             let no : count ≡ 0 = flush ∙ ap (λ (b : Bool). if b then 0 else flush_words p) t in
             let here : m + count ≡ 0 = omega arith in
             let there : period_count p octets ≡ 0 = ap (λ (b : Bool). if b then 0 else m + flush_words p) u in
-            ap (λ k. slots_to p k (symbols ++ zeros (count * codeword_symbols p.order))) here
-            ∙ (slots-none p _ ∙ (sym (slots-none p (sent_symbols p octets)) ∙ ap (λ k. slots_to p k (sent_symbols p octets)) (sym there)))
+            ap (λ k. octets_to p k (symbols ++ zeros (count * codeword_symbols p.order))) here
+            ∙ (slots-none p _ ∙ (sym (slots-none p (sent_symbols p octets)) ∙ ap (λ k. octets_to p k (sent_symbols p octets)) (sym there)))
         | inr some ↦
             let w : words ≢ 0 = λ z. some (sym all ∙ z) in
             let t : (words == 0) ≡ false = ne_eqb words 0 w in
@@ -128,12 +114,12 @@ module _ (p : Parameters) (octets : List ℕ) (count words : ℕ) (flush : count
       ]
 
   pub flush_end : (q r : Parameters) → q ≡ p → r ≡ p
-      → slots_to q (block_count p octets + count) (joined (block_count p octets) (word_symbols p (bit_stream p octets)) ++ zeros (count * codeword_symbols r.order)) ≡ slots_of p octets
+      → octets_to q (block_count p octets + count) (joined (block_count p octets) (word_symbols p (bit_stream p octets)) ++ zeros (count * codeword_symbols r.order)) ≡ slots_of p octets
   flush_end q r same same' = rw (same, same') slots_all
 
   -- the slots before the flush stand at the front
-  pub slots_all-front : 0 < p.repeat → IsFront (slots_to p (block_count p octets) (joined (block_count p octets) (word_symbols p (bit_stream p octets)))) (slots_of p octets)
+  pub slots_all-front : 0 < p.repeat → IsFront (octets_to p (block_count p octets) (joined (block_count p octets) (word_symbols p (bit_stream p octets)))) (slots_of p octets)
   slots_all-front repeat =
       let m : ℕ = block_count p octets in
       let symbols : List ℕ = joined m (word_symbols p (bit_stream p octets)) in
-      rw slots_all at (slots_front p symbols (zeros (count * codeword_symbols p.order)) m (m + count) repeat (length-words p (bit_stream p octets) m) (omega arith))
+      rw slots_all at (slots_front p symbols (zeros (count * codeword_symbols p.order)) m (m + count) repeat (length-joined-word_symbols p (bit_stream p octets) m) (omega arith))

@@ -1,31 +1,31 @@
 -- Codewords that go out one after another.
-use Rattle.std.proofs.Common.{◌≡◌, ◌<◌, ◌+◌, ◌*◌, ◌-◌, ◌++◌, ℕ, List, [], length, Result, Ok, Err, OnOk, OnErr, ap, sym, ◌∙◌, arith, length-append, append_assoc, append-nil, take, drop}
+use Rattle.std.proofs.Common.{◌≡◌, ◌<◌, ◌+◌, ◌*◌, ◌-◌, ◌++◌, ℕ, List, [], length, Result, Ok, Err, OnOk, OnErr, ap, sym, ◌∙◌, refl, arith, length-append, append_assoc, append-nil, take, drop}
 use Rattle.std.specs.List.{flat_map}
 use Rattle.std.specs.declared.option.Option.{Option}
 use Rattle.std.proofs.lemmas.List.{replicate-append-replicate, take_at}
 use Rattle.hpe_base.specs.Bits.{zeros}
 use Rattle.hpe_base.specs.Parameters.{Parameters, IsValid, codeword_symbols, period_slots}
 use Rattle.hpe_base.specs.ChannelInterleaver.{interleaved_channel}
-use Rattle.hpe_base.specs.Slots.{slots_to, slot_at, pulses_of}
+use Rattle.hpe_base.specs.Slots.{octets_to, octet_at, symbol_octets}
 use Rattle.hpe_base.proofs.BitLists.{length-zeros}
 use Rattle.hpe_base.proofs.Channels.{length-interleaved_channel}
-use Rattle.hpe_base.proofs.Periods.{slots_to-more}
+use Rattle.hpe_base.proofs.Periods.{octets_to-more}
 use Rattle.hpe_base.proofs.Tabulated.{tabulate-none}
 use Rattle.hpe_base.specs.Lists.{tabulate}
 use Rattle.hpe_io.specs.Devices.{GrowsByFront}
 use Rattle.hpe_weave.specs.Weaving.{HasWoven}
 use Rattle.hpe_send.specs.Coding.{Coding, HasCoded}
 use Rattle.hpe_send.specs.Outgoing.{IsPending}
-use Rattle.hpe_send.proofs.Fronts.{IsFront, grows-front}
+use Rattle.hpe_io.proofs.Fronts.{IsFront, grows-front}
 use Rattle.hpe_send.proofs.Pending.{pending_none, pending_same, grows_err, grows_same}
 use Rattle.hpe_send.proofs.Slotted.{slots_front}
 
 -- no period has no slots
-pub slots-none : (p : Parameters) (symbols : List ℕ) → slots_to p 0 symbols ≡ []
-unfolding slots_to
+pub slots-none : (p : Parameters) (symbols : List ℕ) → octets_to p 0 symbols ≡ []
+unfolding octets_to
 slots-none p symbols =
-    let none : 0 * period_slots p ≡ 0 = omega arith in
-    ap (λ n. tabulate n (slot_at p (interleaved_channel p symbols))) none ∙ tabulate-none (slot_at p (interleaved_channel p symbols))
+    let none : p.count_octets * (0 * period_slots p) ≡ 0 = grind arith in
+    ap (λ n. tabulate n (octet_at p (interleaved_channel p symbols))) none ∙ tabulate-none (octet_at p (interleaved_channel p symbols))
 
 -- a coder before its first codeword
 pub coded_none : (c : Coding) (start : Option (List ℕ)) → IsValid c.parameters → HasWoven c.weaver [] → c.held ≡ [] → HasCoded c 0 [] start start
@@ -33,24 +33,24 @@ coded_none c start valid woven held = record {
   valid = valid;
   size = omega arith;
   woven = woven;
-  pending = pending_same start start c.held [] (slots_to c.parameters 0 []) (sym (slots-none c.parameters [])) (pending_none start c.held held);
+  pending = pending_same start start c.held [] (octets_to c.parameters 0 []) (sym (slots-none c.parameters [])) (pending_none start c.held held);
 }
 
 module _ (c : Coding) (n : ℕ) (symbols word woven : List ℕ) (start now : Option (List ℕ)) (was : HasCoded c n symbols start now)
     (size : length word ≡ codeword_symbols c.parameters.order)
     (answers : interleaved_channel c.parameters (symbols ++ word) ≡ interleaved_channel c.parameters symbols ++ woven) where
   -- the slots of one codeword more
-  slots_word : slots_to c.parameters n symbols ++ flat_map (pulses_of c.parameters) (c.parameters.marker ++ woven) ≡ slots_to c.parameters (n + 1) (symbols ++ word)
+  slots_word : octets_to c.parameters n symbols ++ flat_map (symbol_octets c.parameters) (c.parameters.marker ++ woven) ≡ octets_to c.parameters (n + 1) (symbols ++ word)
   slots_word =
       let p = c.parameters in
       let long : length symbols ≡ n * codeword_symbols c.parameters.order = was.size in
       let all : length (interleaved_channel p (symbols ++ word)) ≡ length (interleaved_channel p symbols ++ woven) = ap (λ (l : List ℕ). length l) answers in
       let came : length woven ≡ codeword_symbols c.parameters.order =
       omega (arith, length-append (interleaved_channel p symbols) woven, length-append symbols word, length-interleaved_channel p (symbols ++ word), length-interleaved_channel p symbols) in
-      sym (slots_to-more p symbols word woven n was.valid.repeat_low long came answers)
+      sym (octets_to-more p symbols word woven n was.valid.range.repeat_low was.valid.range.count_octets_low long came answers)
 
   coded_more : (c' : Coding) (now' : Option (List ℕ)) → c'.parameters ≡ c.parameters → HasWoven c'.weaver (symbols ++ word)
-      → IsPending start now' c'.held (slots_to c.parameters n symbols ++ flat_map (pulses_of c.parameters) (c.parameters.marker ++ woven))
+      → IsPending start now' c'.held (octets_to c.parameters n symbols ++ flat_map (symbol_octets c.parameters) (c.parameters.marker ++ woven))
       → HasCoded c' (n + 1) (symbols ++ word) start now'
   coded_more c' now' same into pending =
       let long : length symbols ≡ n * codeword_symbols c.parameters.order = was.size in
@@ -64,14 +64,14 @@ module _ (c : Coding) (n : ℕ) (symbols word woven : List ℕ) (start now : Opt
 
   -- after the period of the codeword was sent, or was cut off
   pub coded_ok : {T E : Type 0} (result : Result T E) (c' : Coding) (now' : Option (List ℕ)) → c'.parameters ≡ c.parameters → HasWoven c'.weaver (symbols ++ word)
-      → OnOk result (IsPending start now' c'.held (slots_to c.parameters n symbols ++ flat_map (pulses_of c.parameters) (c.parameters.marker ++ woven)))
+      → OnOk result (IsPending start now' c'.held (octets_to c.parameters n symbols ++ flat_map (symbol_octets c.parameters) (c.parameters.marker ++ woven)))
       → OnOk result (HasCoded c' (n + 1) (symbols ++ word) start now')
   coded_ok (Ok v) c' now' same into pending = coded_more c' now' same into pending
   coded_ok (Err v) c' now' same into pending = pending
 
   pub coded_err : {T E : Type 0} (result : Result T E) (now' : Option (List ℕ))
-      → OnErr result (GrowsByFront start now' (slots_to c.parameters n symbols ++ flat_map (pulses_of c.parameters) (c.parameters.marker ++ woven)))
-      → OnErr result (GrowsByFront start now' (slots_to c.parameters (n + 1) (symbols ++ word)))
+      → OnErr result (GrowsByFront start now' (octets_to c.parameters n symbols ++ flat_map (symbol_octets c.parameters) (c.parameters.marker ++ woven)))
+      → OnErr result (GrowsByFront start now' (octets_to c.parameters (n + 1) (symbols ++ word)))
   coded_err result now' cut = grows_err result start now' _ _ slots_word cut
 
 -- the room for a codeword plays no part
@@ -94,8 +94,8 @@ zeros-more symbols i s =
 
 -- a flush that is cut off in its period i
 pub flush_cut : (c : Coding) (n i count : ℕ) (symbols : List ℕ) (start now now' : Option (List ℕ)) → HasCoded c n symbols start now → i < count
-    → GrowsByFront start now' (slots_to c.parameters (n + i + 1) ((symbols ++ zeros (i * codeword_symbols c.parameters.order)) ++ zeros (codeword_symbols c.parameters.order)))
-    → GrowsByFront start now' (slots_to c.parameters (n + count) (symbols ++ zeros (count * codeword_symbols c.parameters.order)))
+    → GrowsByFront start now' (octets_to c.parameters (n + i + 1) ((symbols ++ zeros (i * codeword_symbols c.parameters.order)) ++ zeros (codeword_symbols c.parameters.order)))
+    → GrowsByFront start now' (octets_to c.parameters (n + count) (symbols ++ zeros (count * codeword_symbols c.parameters.order)))
 flush_cut c n i count symbols start now now' was h cut =
     let p = c.parameters in
     let s = codeword_symbols c.parameters.order in
@@ -110,10 +110,15 @@ flush_cut c n i count symbols start now now' was h cut =
     let all : xs ++ zeros ((count - (i + 1)) * s) ≡ symbols ++ zeros (count * s) =
     append_assoc symbols (zeros ((i + 1) * s)) (zeros ((count - (i + 1)) * s))
     ∙ ap (λ l. symbols ++ l) (zeros-append ((i + 1) * s) ((count - (i + 1)) * s) ∙ ap zeros rest) in
-    let front : IsFront (slots_to p (n + i + 1) xs) (slots_to p (n + count) (xs ++ zeros ((count - (i + 1)) * s))) =
-    slots_front p xs (zeros ((count - (i + 1)) * s)) (n + i + 1) (n + count) was.valid.repeat_low long (omega arith) in
-    grows-front start now' (slots_to p (n + i + 1) xs) (slots_to p (n + count) (symbols ++ zeros (count * s))) (rw all at front)
-    (grows_same start now' _ _ (ap (slots_to p (n + i + 1)) (zeros-more symbols i s)) cut)
+    let front : IsFront (octets_to p (n + i + 1) xs) (octets_to p (n + count) (xs ++ zeros ((count - (i + 1)) * s))) =
+    slots_front p xs (zeros ((count - (i + 1)) * s)) (n + i + 1) (n + count) was.valid.range.repeat_low long (omega arith) in
+    grows-front start now' (octets_to p (n + i + 1) xs) (octets_to p (n + count) (symbols ++ zeros (count * s))) (rw all at front)
+    (grows_same start now' _ _ (ap (octets_to p (n + i + 1)) (zeros-more symbols i s)) cut)
+
+-- the slots once all periods of symbols 0 went in
+pub flushed : (p q : Parameters) (n i count : ℕ) (symbols : List ℕ) → q ≡ p → i ≡ count
+    → octets_to q (n + i) (symbols ++ zeros (i * codeword_symbols p.order)) ≡ octets_to p (n + count) (symbols ++ zeros (count * codeword_symbols p.order))
+flushed p q n i count symbols same end = rw (same, end) refl
 
 -- no period of symbols 0 yet
 pub zeros-none : (symbols : List ℕ) (s : ℕ) → symbols ≡ symbols ++ zeros (0 * s)

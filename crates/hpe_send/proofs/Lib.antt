@@ -1,4 +1,3 @@
-pub mod Fronts
 pub mod Pending
 pub mod Within
 pub mod WovenWord
@@ -10,3 +9,4 @@ pub mod Stepped
 pub mod Chained
 pub mod Taken
 pub mod Ended
+pub mod LeftOff

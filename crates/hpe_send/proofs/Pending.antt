@@ -1,19 +1,15 @@
 -- Octets on their way to a sink.
-use Rattle.std.proofs.Common.{◌≡◌, ◌≤◌, ◌+◌, ◌++◌, ◌<◌, ℕ, List, [], ◌∷◌, length, take, get_or, Result, Ok, Err, OnOk, OnErr, drop, ap, sym, ◌∙◌, arith, append_assoc, append-nil, length-append, suc}
+use Rattle.std.proofs.Common.{◌≡◌, ◌≤◌, ◌+◌, ◌++◌, ◌<◌, ℕ, List, [], ◌∷◌, length, take, get_or, Result, Ok, Err, OnOk, OnErr, drop, ap, sym, ◌∙◌, arith, append_assoc, append-nil, length-append}
 use Rattle.std.specs.List.{flat_map}
 use Rattle.std.proofs.lemmas.List.{take-append-le, take_more, take_all, take-append-drop}
+use Rattle.std.proofs.Math.Seq.{take-append-add}
 use Rattle.std.proofs.lemmas.Grind.{flat_map-append}
 use Rattle.std.specs.declared.option.Option.{Option}
 use Rattle.std.specs.Io.KnownBytes.{append_known}
-use Rattle.hpe_io.specs.Devices.{GrowsByFront}
+use Rattle.hpe_io.specs.Devices.{GrowsByFront, Puts}
 use Rattle.hpe_io.proofs.Known.{append_twice, append_nothing}
 use Rattle.hpe_send.specs.Outgoing.{IsPending}
-use Rattle.hpe_send.proofs.Fronts.{IsFront, front_from}
-
-pub take_past : (xs ys : List ℕ) (k : ℕ) → take (length xs + k) (xs ++ ys) ≡ xs ++ take k ys
-take_past [] ys k = let e : 0 + k ≡ k = omega arith in ap (λ (n : ℕ). take n ys) e
-take_past (x ∷ xs) ys k =
-    let e : suc (length xs) + k ≡ suc (length xs + k) = omega arith in rw e (ap (λ (l : List ℕ). x ∷ l) (take_past xs ys k))
+use Rattle.hpe_io.proofs.Fronts.{IsFront, front_from}
 
 -- a put of what is held that is cut off
 pub pending_cut : (start old new : Option (List ℕ)) (held all piece : List ℕ) → IsPending start old held all → GrowsByFront old new held →
@@ -25,7 +21,7 @@ pending_cut start old new held all piece h g =
     let list : all ++ piece ≡ sent ++ (held ++ piece) = ap (λ (l : List ℕ). l ++ piece) h.2 ∙ append_assoc sent held piece in
     let long : length (all ++ piece) ≡ length sent + length (held ++ piece) = ap (λ (l : List ℕ). length l) list ∙ length-append sent (held ++ piece) in
     let front : take (length sent + k) (all ++ piece) ≡ sent ++ take k held =
-    ap (take (length sent + k)) list ∙ take_past sent (held ++ piece) k ∙ ap (λ (l : List ℕ). sent ++ l) (take-append-le k held piece n) in (
+    ap (take (length sent + k)) list ∙ take-append-add sent (held ++ piece) k ∙ ap (λ (l : List ℕ). sent ++ l) (take-append-le k held piece n) in (
       length sent + k,
       omega (arith, length-append held piece),
       g.2 ∙ ap (λ (o : Option (List ℕ)). append_known o (take k held)) h.1 ∙ append_twice sent (take k held) start ∙ ap (append_known start) (sym front),
@@ -85,3 +81,15 @@ grows_err (Err v) start new all all' e h = grows_same start new all all' e h
 -- the pieces of the first values stand at the front of those of all
 pub front_twice : (f : ℕ → List ℕ) (all xs xs' ys : List ℕ) → xs ≡ xs' → IsFront (all ++ flat_map f xs) (all ++ flat_map f (xs' ++ ys))
 front_twice f all xs xs' ys e = front_from (all ++ flat_map f xs) (flat_map f ys) (all ++ flat_map f (xs' ++ ys)) (sym (pieces_twice f all xs xs' ys e))
+
+-- all that was due is written once what is held is put
+pub put_ok : {T E : Type 0} (result : Result T E) (start now new : Option (List ℕ)) (held all all' : List ℕ) → all ≡ all' → IsPending start now held all
+    → Puts now new result held → OnOk result (new ≡ append_known start all')
+put_ok (Ok v) start now new held all all' e h put = pending_flushed start now new held all h put ∙ ap (append_known start) e
+put_ok (Err v) start now new held all all' e h put = tt
+
+-- what is put of what is held, where that is cut off
+pub put_err : {T E : Type 0} (result : Result T E) (start now new : Option (List ℕ)) (held all all' : List ℕ) → all ≡ all' → IsPending start now held all
+    → Puts now new result held → OnErr result (GrowsByFront start new all')
+put_err (Ok v) start now new held all all' e h put = tt
+put_err (Err v) start now new held all all' e h put = grows_same start new (all ++ []) all' (append-nil all ∙ e) (pending_cut start now new held all [] h put)

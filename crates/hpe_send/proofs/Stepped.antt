@@ -13,11 +13,12 @@ use Rattle.hpe_base.specs.Slicer.{block_from}
 use Rattle.hpe_base.specs.Codeword.{codeword, word_symbols}
 use Rattle.hpe_base.proofs.Tabulated.{joined-more}
 use Rattle.hpe_base.proofs.BitLists.{length-zeros, length-bits_of, length-octet_bits}
+use Rattle.hpe_base.proofs.ParameterLemmas.{block_bits-pos}
 use Rattle.hpe_frame.specs.Feeding.{Feeding, marked}
 use Rattle.hpe_io.specs.Devices.{GrowsByFront}
 use Rattle.hpe_send.specs.Streaming.{word_count, words_of, bit_slots}
-use Rattle.hpe_send.proofs.Fronts.{IsFront, grows-front}
-use Rattle.hpe_send.proofs.Worded.{words-front, words-filled, block_bits-pos, bit_slots-front}
+use Rattle.hpe_io.proofs.Fronts.{IsFront, grows-front}
+use Rattle.hpe_send.proofs.Worded.{words-front, words-filled, bit_slots-front}
 use Rattle.hpe_send.proofs.Streamed.{frames-front, ceil-begun, ceil-whole}
 
 -- the whole units of k in n + 1 values, where the last one ends none, and where it ends one
@@ -60,7 +61,7 @@ next-front xs ys i h = append_assoc xs (take i ys) (get_or ys i 0 ∷ []) ∙ ap
 module _ (p : Parameters) (bits : List ℕ) (x : ℕ) where
   -- a bit that completes no block changes no count and no codeword
   pub count_same : (length bits + 1) % block_bits p.rate ≢ 0 → word_count p bits ≡ word_count p (bits ++ x ∷ [])
-  count_same h = sym (ap (λ (n : ℕ). n / block_bits p.rate) (length_push bits x) ∙ count-same (length bits) (block_bits p.rate) (block_bits-pos p) h)
+  count_same h = sym (ap (λ (n : ℕ). n / block_bits p.rate) (length_push bits x) ∙ count-same (length bits) (block_bits p.rate) (block_bits-pos p.rate) h)
 
   pub words_same : (length bits + 1) % block_bits p.rate ≢ 0 → words_of p bits ≡ words_of p (bits ++ x ∷ [])
   unfolding words_of
@@ -70,7 +71,7 @@ module _ (p : Parameters) (bits : List ℕ) (x : ℕ) where
 
   -- a bit that completes a block adds its codeword
   pub count_more : (length bits + 1) % block_bits p.rate ≡ 0 → word_count p bits + 1 ≡ word_count p (bits ++ x ∷ [])
-  count_more h = sym (ap (λ (n : ℕ). n / block_bits p.rate) (length_push bits x) ∙ count-more (length bits) (block_bits p.rate) (block_bits-pos p) h)
+  count_more h = sym (ap (λ (n : ℕ). n / block_bits p.rate) (length_push bits x) ∙ count-more (length bits) (block_bits p.rate) (block_bits-pos p.rate) h)
 
   pub words_more : (block : List ℕ) → (length bits + 1) % block_bits p.rate ≡ 0
       → block ≡ block_from (bits ++ x ∷ []) (block_bits p.rate) (length (bits ++ x ∷ []) / block_bits p.rate - 1)
@@ -89,14 +90,14 @@ module _ (p : Parameters) (bits : List ℕ) where
   -- the codewords of a stream that ends with a whole block
   pub words_whole : length bits % block_bits p.rate ≡ 0 → words_of p bits ≡ joined (div_ceil (length bits) (block_bits p.rate)) (word_symbols p bits)
   unfolding words_of
-  words_whole h = ap (λ (n : ℕ). joined n (word_symbols p bits)) (sym (ceil-whole (length bits) (block_bits p.rate) (block_bits-pos p) h))
+  words_whole h = ap (λ (n : ℕ). joined n (word_symbols p bits)) (sym (ceil-whole (length bits) (block_bits p.rate) (block_bits-pos p.rate) h))
 
   pub count_whole : length bits % block_bits p.rate ≡ 0 → word_count p bits ≡ div_ceil (length bits) (block_bits p.rate)
-  count_whole h = sym (ceil-whole (length bits) (block_bits p.rate) (block_bits-pos p) h)
+  count_whole h = sym (ceil-whole (length bits) (block_bits p.rate) (block_bits-pos p.rate) h)
 
   -- and of one that ends with a block that zeros fill
   pub count_begun : 0 < length bits % block_bits p.rate → word_count p bits + 1 ≡ div_ceil (length bits) (block_bits p.rate)
-  count_begun h = sym (ceil-begun (length bits) (block_bits p.rate) (block_bits-pos p) h)
+  count_begun h = sym (ceil-begun (length bits) (block_bits p.rate) (block_bits-pos p.rate) h)
 
   pub words_begun : (block : List ℕ) (m : ℕ) → 0 < length bits % block_bits p.rate → m ≡ block_bits p.rate - length bits % block_bits p.rate
       → block ≡ block_from (bits ++ zeros m) (block_bits p.rate) (length (bits ++ zeros m) / block_bits p.rate - 1)
@@ -105,7 +106,7 @@ module _ (p : Parameters) (bits : List ℕ) where
   words_begun block m h z e =
       let k : ℕ = block_bits p.rate in
       let w : ℕ = length bits / k in
-      let some : 0 < k = block_bits-pos p in
+      let some : 0 < k = block_bits-pos p.rate in
       let size : length (bits ++ zeros m) ≡ (w + 1) * k + 0 =
       (let next : (w + 1) * k ≡ w * k + k = grind arith in
       omega (arith, length-append bits (zeros m), length-zeros m, div-add-mod' (length bits) k, mod_below (length bits) k some)) in

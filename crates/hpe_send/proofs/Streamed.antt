@@ -7,10 +7,8 @@ use Rattle.hpe_base.specs.Lists.{joined}
 use Rattle.hpe_base.specs.Bits.{bits_of, octet_bits}
 use Rattle.hpe_base.specs.Parameters.{Parameters}
 use Rattle.hpe_base.specs.Frames.{bit_stream, frame_count, frame, frame_bits}
-use Rattle.hpe_base.proofs.Tabulated.{joined-same, length-joined-each}
-use Rattle.hpe_base.proofs.Pieces.{length-piece}
-use Rattle.hpe_base.proofs.BitLists.{length-bits_of, length-octet_bits}
-use Rattle.hpe_send.proofs.Worded.{joined-append, count-le, fits-count}
+use Rattle.hpe_base.proofs.Tabulated.{joined-same, joined-append}
+use Rattle.hpe_send.proofs.Worded.{count-le}
 
 -- a frame whose octets came already stays
 frame-front : (p : Parameters) (octets more : List ℕ) (f : ℕ) → (f + 1) * p.frame_octets ≤ length octets → frame p (octets ++ more) f ≡ frame p octets f
@@ -41,19 +39,6 @@ stream-front p octets more pos =
     ap (λ (j : ℕ). joined j (frame_bits p (octets ++ more))) (sym split)
     ∙ (joined-append n (m - n) (frame_bits p (octets ++ more))
     ∙ ap (λ (l : List ℕ). l ++ rest) (frames-front p octets more n (omega (arith, div-add-mod' (length octets) p.frame_octets))))
-
--- the bits of a whole frame with its marker
-length-frame_bits : (p : Parameters) (octets : List ℕ) (f : ℕ) → f < frame_count p octets → length (frame_bits p octets f) ≡ 32 + 8 * p.frame_octets
-length-frame_bits p octets f h =
-    let e : (f + 1) * p.frame_octets ≡ f * p.frame_octets + p.frame_octets = grind arith in
-    let size : length (frame p octets f) ≡ p.frame_octets =
-    length-piece octets (f * p.frame_octets) p.frame_octets (omega (arith, fits-count (length octets) p.frame_octets f h)) in
-    omega (arith, length-append (bits_of 32 p.frame_marker) (octet_bits (frame p octets f)), length-bits_of 32 p.frame_marker, length-octet_bits (frame p octets f))
-
-pub length-bit_stream : (p : Parameters) (octets : List ℕ) → length (bit_stream p octets) ≡ frame_count p octets * (32 + 8 * p.frame_octets)
-unfolding bit_stream
-length-bit_stream p octets =
-    length-joined-each (frame_count p octets) (32 + 8 * p.frame_octets) (frame_bits p octets) (λ f b. length-frame_bits p octets f b)
 
 -- a last block that is begun counts as one
 pub ceil-begun : (n k : ℕ) → 0 < k → 0 < n % k → div_ceil n k ≡ n / k + 1

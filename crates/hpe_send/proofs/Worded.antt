@@ -1,33 +1,20 @@
 -- The codewords of more and more bits.
-use Rattle.std.proofs.Common.{◌≡◌, ◌≤◌, ◌<◌, ◌+◌, ◌*◌, ◌/◌, ◌%◌, ◌-◌, ◌++◌, ℕ, List, [], length, get_or, ap, sym, ◌∙◌, refl, arith, length-append, inl, inr, zero, suc, append_assoc, append-nil, add-zero}
+use Rattle.std.proofs.Common.{◌≡◌, ◌≤◌, ◌<◌, ◌+◌, ◌*◌, ◌/◌, ◌%◌, ◌-◌, ◌++◌, ℕ, List, length, get_or, ap, sym, ◌∙◌, refl, arith, length-append, inl, inr}
 use Rattle.std.proofs.lemmas.Nat.{mul-le, div-add-mod', le-div}
 use Rattle.std.proofs.lemmas.Bool.{cases_lt}
-use Rattle.std.proofs.lemmas.List.{get_or_append_left, get_or-append_right, get_or_past, get_or-replicate, length-replicate}
+use Rattle.std.proofs.lemmas.List.{get_or_append_left, get_or-append_right, get_or_past}
 use Rattle.hpe_base.specs.Bits.{zeros}
 use Rattle.hpe_base.specs.Lists.{joined}
-use Rattle.hpe_base.specs.Parameters.{Parameters, block_bits, codeword_bits, codeword_symbols, symbol_bits}
+use Rattle.hpe_base.specs.Parameters.{Parameters, block_bits}
 use Rattle.hpe_base.specs.Slicer.{block_from}
 use Rattle.hpe_base.specs.Codeword.{codeword, word_symbols}
-use Rattle.hpe_base.proofs.Tabulated.{tabulate-same, joined-same, length-joined-each, length-tabulate}
-use Rattle.hpe_base.proofs.ParameterLemmas.{code_steps-ge}
+use Rattle.hpe_base.proofs.Tabulated.{tabulate-same, joined-same, joined-append}
+use Rattle.hpe_base.proofs.ParameterLemmas.{block_bits-pos}
+use Rattle.hpe_base.proofs.BitLists.{get_or-zeros}
+use Rattle.hpe_base.proofs.Shapes.{length-joined-word_symbols}
 use Rattle.hpe_send.specs.Streaming.{word_count, words_of, bit_slots}
-use Rattle.hpe_send.proofs.Fronts.{IsFront}
+use Rattle.hpe_io.proofs.Fronts.{IsFront}
 use Rattle.hpe_send.proofs.Slotted.{slots_front}
-
-joined-suc : {X : Type 0} (n : ℕ) (f : ℕ → List X) → joined (suc n) f ≡ joined n f ++ f n
-unfolding joined
-joined-suc n f = refl
-
-joined-none : {X : Type 0} (f : ℕ → List X) → joined 0 f ≡ []
-unfolding joined
-joined-none f = refl
-
-pub joined-append : {X : Type 0} (m n : ℕ) (f : ℕ → List X) → joined (m + n) f ≡ joined m f ++ joined n (λ i. f (m + i))
-joined-append m zero f = rw (add-zero, joined-none (λ i. f (m + i))) (sym (append-nil (joined m f)))
-joined-append m (suc n) f =
-    let before : joined (m + n) f ≡ joined m f ++ joined n (λ i. f (m + i)) = joined-append m n f in
-    let e : m + suc n ≡ suc (m + n) = omega arith in
-    rw (e, joined-suc (m + n) f, before, joined-suc n (λ i. f (m + i))) (append_assoc (joined m f) (joined n (λ i. f (m + i))) (f (m + n)))
 
 -- a block whose bits came already stays
 block-front : (bits more : List ℕ) (size w : ℕ) → (w + 1) * size ≤ length bits → block_from (bits ++ more) size w ≡ block_from bits size w
@@ -37,14 +24,6 @@ block-front bits more size w h =
     tabulate-same size (λ i. get_or (bits ++ more) (w * size + i) 0) (λ i. get_or bits (w * size + i) 0)
     (λ k b. get_or_append_left bits more 0 (w * size + k) (omega arith))
 
-zero-at : (n k : ℕ) → get_or (zeros n) k 0 ≡ 0
-unfolding zeros
-zero-at n k =
-    elim (cases_lt k n) [
-      | inl h ↦ get_or-replicate n k 0 0 h
-      | inr h ↦ get_or_past (zeros n) k 0 (let l = length-replicate {A = ℕ} n 0 in omega arith)
-    ]
-
 -- zeros past the end change no block
 block-filled : (bits : List ℕ) (m size w : ℕ) → block_from (bits ++ zeros m) size w ≡ block_from bits size w
 unfolding block_from
@@ -53,7 +32,7 @@ block-filled bits m size w =
     elim (cases_lt (w * size + k) (length bits)) [
       | inl h ↦ get_or_append_left bits (zeros m) 0 (w * size + k) h
       | inr h ↦ get_or-append_right bits (zeros m) (length bits) (w * size + k) 0 refl h
-          ∙ (zero-at m (w * size + k - length bits) ∙ sym (get_or_past bits (w * size + k) 0 h))
+          ∙ (get_or-zeros m (w * size + k - length bits) ∙ sym (get_or_past bits (w * size + k) 0 h))
     ])
 
 pub fits-count : (len size w : ℕ) → w < len / size → (w + 1) * size ≤ len
@@ -67,9 +46,6 @@ count-le a b size pos h =
     let e : a / size * size + a % size ≡ a = div-add-mod' a size in
     le-div (a / size) b size pos (omega arith)
 
-pub block_bits-pos : (p : Parameters) → 0 < block_bits p.rate
-block_bits-pos p = omega (arith, code_steps-ge p.rate)
-
 -- the codewords of the whole blocks stay as more bits come
 pub words-front : (p : Parameters) (bits more : List ℕ) (n : ℕ) → n * block_bits p.rate ≤ length bits
     → joined n (word_symbols p (bits ++ more)) ≡ joined n (word_symbols p bits)
@@ -82,15 +58,6 @@ words-front p bits more n h =
 pub words-filled : (p : Parameters) (bits : List ℕ) (n m : ℕ) → joined n (word_symbols p (bits ++ zeros m)) ≡ joined n (word_symbols p bits)
 words-filled p bits n m =
     joined-same n (word_symbols p (bits ++ zeros m)) (word_symbols p bits) (λ w b. ap (codeword p) (block-filled bits m (block_bits p.rate) w))
-
-pub length-codeword : (p : Parameters) (block : List ℕ) → length (codeword p block) ≡ codeword_symbols p.order
-unfolding codeword
-length-codeword p block =
-    length-tabulate _ _ ∙ ap (λ n. n / symbol_bits p.order) (length-tabulate _ _ ∙ length-tabulate codeword_bits _)
-
-pub length-words : (p : Parameters) (bits : List ℕ) (n : ℕ) → length (joined n (word_symbols p bits)) ≡ n * codeword_symbols p.order
-length-words p bits n =
-    length-joined-each n (codeword_symbols p.order) (word_symbols p bits) (λ w b. length-codeword p (block_from bits (block_bits p.rate) w))
 
 -- the codewords of n blocks, and of those after them
 pub words-split : (p : Parameters) (bits : List ℕ) (n m : ℕ) → n ≤ m
@@ -106,9 +73,9 @@ bit_slots-front p bits more repeat =
     let k = block_bits p.rate in
     let n = word_count p bits in
     let m = word_count p (bits ++ more) in
-    let le : n ≤ m = count-le (length bits) (length (bits ++ more)) k (block_bits-pos p) (omega (arith, length-append bits more)) in
+    let le : n ≤ m = count-le (length bits) (length (bits ++ more)) k (block_bits-pos p.rate) (omega (arith, length-append bits more)) in
     let fits : n * k ≤ length bits = omega (arith, div-add-mod' (length bits) k) in
     let rest = joined (m - n) (λ i. word_symbols p (bits ++ more) (n + i)) in
     let all : joined m (word_symbols p (bits ++ more)) ≡ joined n (word_symbols p bits) ++ rest =
     words-split p (bits ++ more) n m le ∙ ap (λ (l : List ℕ). l ++ rest) (words-front p bits more n fits) in
-    rw all (slots_front p (joined n (word_symbols p bits)) rest n m repeat (length-words p bits n) le)
+    rw all (slots_front p (joined n (word_symbols p bits)) rest n m repeat (length-joined-word_symbols p bits n) le)

@@ -2,7 +2,7 @@
 use Rattle.std.specs.Prelude.{ℕ, ◌≡◌, ◌*◌, List, length}
 use Rattle.std.specs.declared.option.Option.{Option}
 use Rattle.hpe_base.specs.Parameters.{Parameters, IsValid, codeword_symbols}
-use Rattle.hpe_base.specs.Slots.{slots_to}
+use Rattle.hpe_base.specs.Slots.{octets_to}
 use Rattle.hpe_weave.specs.Weaving.{Weaving, HasWoven}
 use Rattle.hpe_send.specs.Outgoing.{IsPending}
 
@@ -18,4 +18,4 @@ pub record HasCoded (c : Coding) (n : ℕ) (symbols : List ℕ) (start now : Opt
   pub valid : IsValid c.parameters
   pub size : length symbols ≡ n * codeword_symbols c.parameters.order
   pub woven : HasWoven c.weaver symbols
-  pub pending : IsPending start now c.held (slots_to c.parameters n symbols)
+  pub pending : IsPending start now c.held (octets_to c.parameters n symbols)

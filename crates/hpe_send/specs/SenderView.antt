@@ -1,5 +1,5 @@
 -- How contracts see the fields of a sender.
-use Rattle.std.specs.Prelude.{ℕ, ◌<◌, List, [], length}
+use Rattle.std.specs.Prelude.{ℕ, List, []}
 use Rattle.std.specs.declared.option.Option.{Option}
 use Rattle.hpe_base.specs.Parameters.{Parameters}
 use Rattle.hpe_send.specs.Chaining.{HasTaken}
@@ -11,4 +11,3 @@ parameters s = s.chain.coder.parameters
 -- no octet went in
 pub record IsNew (s : Inside) : Type 0 where
   pub stands : (start : Option (List ℕ)) → HasTaken s.chain [] start start
-  pub room : 0 < length s.buffer.items

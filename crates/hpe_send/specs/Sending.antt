@@ -7,7 +7,9 @@ use Rattle.hpe_base.specs.Parameters.{Parameters, block_bits}
 use Rattle.hpe_base.specs.Frames.{frame_count}
 use Rattle.hpe_base.specs.Slicer.{block_count}
 use Rattle.hpe_base.specs.Slots.{slots_of}
-use Rattle.hpe_io.specs.Devices.{ReadsAll}
+use Rattle.hpe_io.specs.Devices.{ReadsAll, Rose}
+use Rattle.hpe_io.specs.declared.intake.IntakeFault.{IntakeFault}
+use Rattle.hpe_io.specs.declared.intake.IntakeFault.TheVariants as intake
 use Rattle.hpe_send.specs.declared.sender.Sent.{Sent}
 use Rattle.hpe_send.specs.declared.sender.SendFault.{SendFault}
 use Rattle.hpe_send.specs.declared.sender.SendFault.TheVariants.{Read, Write, TooLong, Ragged}
@@ -48,3 +50,24 @@ IfCutOff (Err Read) P = P
 IfCutOff (Err Write) P = P
 IfCutOff (Err TooLong) P = P
 IfCutOff (Err (Ragged rest sent)) P = ⊤
+
+-- the input's count of faults rose where a read failed, and stays at each other answer
+abbrev pub HasReadCause : ℕ → ℕ → Result Sent SendFault → Type 0
+HasReadCause before now (Ok sent) = now ≡ before
+HasReadCause before now (Err Read) = Rose before now
+HasReadCause before now (Err Write) = now ≡ before
+HasReadCause before now (Err TooLong) = now ≡ before
+HasReadCause before now (Err (Ragged rest sent)) = now ≡ before
+
+-- the output's count of faults rose where a write failed, and stays at each other answer
+abbrev pub HasWriteCause : ℕ → ℕ → Result Sent SendFault → Type 0
+HasWriteCause before now (Ok sent) = now ≡ before
+HasWriteCause before now (Err Read) = now ≡ before
+HasWriteCause before now (Err Write) = Rose before now
+HasWriteCause before now (Err TooLong) = now ≡ before
+HasWriteCause before now (Err (Ragged rest sent)) = now ≡ before
+
+-- a fault of the intake, as the sender answers it
+abbrev pub fault_of : IntakeFault → SendFault
+fault_of intake.Read = Read
+fault_of intake.TooLong = TooLong

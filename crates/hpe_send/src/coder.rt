@@ -1,11 +1,13 @@
-// The coder of the sender: from information blocks to slots.
-
+//! The coder of the sender: from information blocks to slots. A period is sent as soon as its codeword is made, so
+//! there is room for one codeword.
 ghost use Rattle.std.specs.Prelude.{◌≡◌, ◌<◌, ◌+◌, ◌*◌, [], ◌++◌, length, All, IfOk, OnOk, OnErr};
 ghost use Rattle.hpe_base.specs.Bits.{AreBits, zeros};
 ghost use Rattle.hpe_base.specs.Codeword.{codeword};
 ghost use Rattle.hpe_base.specs.Parameters.{block_bits, codeword_symbols, positions};
-ghost use Rattle.hpe_base.specs.Slots.{slots_to};
-ghost use Rattle.hpe_io.specs.Devices.{HasCause, GrowsByFront, Puts};
+ghost use Rattle.hpe_base.specs.Slots.{octets_to};
+ghost use Rattle.std.specs.Io.KnownBytes.{append_known};
+ghost use Rattle.hpe_io.specs.Devices.{GrowsByFront};
+ghost use Rattle.hpe_io.specs.Standing.{SinkAnswers};
 ghost use Rattle.hpe_send.specs.Coding.{HasCoded};
 
 use crate::outbox::Outbox;
@@ -75,9 +77,9 @@ impl Coder {
         ensures ok { (n : _) (symbols : _) (start : _) → HasCoded self.old n symbols start (O.written output.old)
             → OnOk result (HasCoded self.new (n + 1) (symbols ++ self.old.word) start (O.written output.new)) }
         ensures cut { (n : _) (symbols : _) (start : _) → HasCoded self.old n symbols start (O.written output.old)
-            → OnErr result (GrowsByFront start (O.written output.new) (slots_to self.old.parameters (n + 1) (symbols ++ self.old.word))) }
-        ensures cause { HasCause (O.faults output.old) (O.faults output.new) result }
-        ensures mark { O.mark output.new ≡ O.mark output.old }
+            → OnErr result (GrowsByFront start (O.written output.new)
+            (octets_to self.old.parameters (n + 1) (symbols ++ self.old.word))) }
+        ensures output { SinkAnswers O.faults O.mark output.old output.new result }
     {
         weave_word(&mut self.weaver, &mut self.word);
         send_period(&self.profile, &self.word, &mut self.outbox, output)
@@ -89,11 +91,12 @@ impl Coder {
         requires size { length block.now ≡ block_bits self.old.parameters.rate }
         ensures profile { self.new.parameters ≡ self.old.parameters }
         ensures ok { (n : _) (symbols : _) (start : _) → HasCoded self.old n symbols start (O.written output.old)
-            → OnOk result (HasCoded self.new (n + 1) (symbols ++ codeword self.old.parameters block.now) start (O.written output.new)) }
+            → OnOk result (HasCoded self.new (n + 1) (symbols ++ codeword self.old.parameters block.now) start
+            (O.written output.new)) }
         ensures cut { (n : _) (symbols : _) (start : _) → HasCoded self.old n symbols start (O.written output.old)
-            → OnErr result (GrowsByFront start (O.written output.new) (slots_to self.old.parameters (n + 1) (symbols ++ codeword self.old.parameters block.now))) }
-        ensures cause { HasCause (O.faults output.old) (O.faults output.new) result }
-        ensures mark { O.mark output.new ≡ O.mark output.old }
+            → OnErr result (GrowsByFront start (O.written output.new)
+            (octets_to self.old.parameters (n + 1) (symbols ++ codeword self.old.parameters block.now))) }
+        ensures output { SinkAnswers O.faults O.mark output.old output.new result }
     {
         encode_word(&self.tables, &self.profile, block, &mut self.word);
         self.send_word(output)
@@ -103,42 +106,31 @@ impl Coder {
     fn send_flush<O: Sink>(&mut self, output: &mut O) -> Result<(), Failed>
         ensures profile { self.new.parameters ≡ self.old.parameters }
         ensures ok { (n : _) (symbols : _) (start : _) → HasCoded self.old n symbols start (O.written output.old)
-            → OnOk result (HasCoded self.new (n + 1) (symbols ++ zeros (codeword_symbols self.old.parameters.order)) start (O.written output.new)) }
+            → OnOk result (HasCoded self.new (n + 1)
+            (symbols ++ zeros (codeword_symbols self.old.parameters.order)) start (O.written output.new)) }
         ensures cut { (n : _) (symbols : _) (start : _) → HasCoded self.old n symbols start (O.written output.old)
-            → OnErr result (GrowsByFront start (O.written output.new) (slots_to self.old.parameters (n + 1) (symbols ++ zeros (codeword_symbols self.old.parameters.order)))) }
-        ensures cause { HasCause (O.faults output.old) (O.faults output.new) result }
-        ensures mark { O.mark output.new ≡ O.mark output.old }
+            → OnErr result (GrowsByFront start (O.written output.new)
+            (octets_to self.old.parameters (n + 1) (symbols ++ zeros (codeword_symbols self.old.parameters.order)))) }
+        ensures output { SinkAnswers O.faults O.mark output.old output.new result }
     {
         self.word.fill(0);
         self.send_word(output)
     }
 
-    /// Sends so many periods of symbols 0.
-    pub fn flush<O: Sink>(&mut self, count: usize, output: &mut O) -> Result<(), Failed>
+    /// Ends the stream: sends so many periods of symbols 0, and puts the slots that wait for the output.
+    pub fn finish<O: Sink>(&mut self, count: usize, output: &mut O) -> Result<(), Failed>
         ensures profile { self.new.parameters ≡ self.old.parameters }
         ensures ok { (n : _) (symbols : _) (start : _) → HasCoded self.old n symbols start (O.written output.old)
-            → OnOk result (HasCoded self.new (n + count) (symbols ++ zeros (count * codeword_symbols self.old.parameters.order)) start (O.written output.new)) }
+            → OnOk result (O.written output.new ≡ append_known start (octets_to self.old.parameters (n + count)
+            (symbols ++ zeros (count * codeword_symbols self.old.parameters.order)))) }
         ensures cut { (n : _) (symbols : _) (start : _) → HasCoded self.old n symbols start (O.written output.old)
-            → OnErr result (GrowsByFront start (O.written output.new) (slots_to self.old.parameters (n + count) (symbols ++ zeros (count * codeword_symbols self.old.parameters.order)))) }
-        ensures cause { HasCause (O.faults output.old) (O.faults output.new) result }
-        ensures mark { O.mark output.new ≡ O.mark output.old }
+            → OnErr result (GrowsByFront start (O.written output.new) (octets_to self.old.parameters (n + count)
+            (symbols ++ zeros (count * codeword_symbols self.old.parameters.order)))) }
+        ensures output { SinkAnswers O.faults O.mark output.old output.new result }
     {
         for _ in 0..count {
-            match self.send_flush(output) {
-                Ok(()) => {}
-                Err(failed) => return Err(failed),
-            }
+            self.send_flush(output)?;
         }
-        Ok(())
-    }
-
-    /// Puts the slots that wait for the output.
-    pub fn put_held<O: Sink>(&mut self, output: &mut O) -> Result<(), Failed>
-        ensures profile { self.new.parameters ≡ self.old.parameters }
-        ensures bytes { Puts (O.written output.old) (O.written output.new) result self.old.held }
-        ensures cause { HasCause (O.faults output.old) (O.faults output.new) result }
-        ensures mark { O.mark output.new ≡ O.mark output.old }
-    {
         self.outbox.flush(output)
     }
 }

@@ -4,7 +4,6 @@
 
 mod chain;
 mod coder;
-mod drive;
 mod outbox;
 mod period;
 mod room;

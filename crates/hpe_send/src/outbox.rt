@@ -1,19 +1,19 @@
-// Slots on their way to the output, put in large pieces.
-
-ghost use Rattle.std.specs.Prelude.{◌≡◌, ◌<◌, ◌≤◌, ◌+◌, [], ◌++◌, length, IfOk, OnOk, OnErr};
+//! Slots on their way to the output, put in large pieces: a put for each symbol would be one call of the system for a
+//! few hundred octets.
+ghost use Rattle.std.specs.Prelude.{◌≡◌, ◌<◌, ◌≤◌, ◌+◌, ◌*◌, [], ◌++◌, length, IfOk, OnOk, OnErr};
 ghost use Rattle.hpe_base.specs.Parameters.{positions, symbol_slots};
-ghost use Rattle.hpe_base.specs.Slots.{pulses_of};
-ghost use Rattle.hpe_io.specs.Devices.{Puts, GrowsByFront, HasCause};
+ghost use Rattle.hpe_base.specs.Slots.{symbol_octets};
+ghost use Rattle.hpe_io.specs.Devices.{Puts, GrowsByFront};
+ghost use Rattle.hpe_io.specs.Standing.{SinkAnswers};
 ghost use Rattle.hpe_send.specs.Outgoing.{IsPending};
 
-use crate::room::blank_room;
 use hpe_base::{NoMemory, Profile};
 use hpe_io::{Failed, Sink};
-use hpe_slots::{symbol_slots, write_pulses};
+use hpe_slots::write_pulses;
 use std::alloc::Global;
 use std::marker::Model;
 
-/// The most slots that are held, and so that are put at once.
+/// The most octets that are held, and so that are put at once.
 const ROOM: usize = 65_536;
 
 /// Slots that wait until there are enough of them to be put.
@@ -40,7 +40,7 @@ impl Outbox {
     pub fn new(alloc: Global) -> Result<Outbox, NoMemory>
         ensures { IfOk result (λ o. o ≡ []) }
     {
-        let octets = blank_room(alloc, ROOM)?;
+        let octets = vec![in alloc; 0; ROOM].map_err(|_| NoMemory)?;
         Ok(Outbox { octets, used: 0 })
     }
 
@@ -53,10 +53,10 @@ impl Outbox {
     /// Appends the slots of a symbol with its repeats.
     fn store(&mut self, p: &Profile, symbol: u8)
         requires symbol { symbol < positions p.now.order }
-        requires room { length self.old + symbol_slots p.now ≤ ROOM }
-        ensures { self.new ≡ self.old ++ pulses_of p.now symbol }
+        requires room { length self.old + p.now.count_octets * symbol_slots p.now ≤ ROOM }
+        ensures { self.new ≡ self.old ++ symbol_octets p.now symbol }
     {
-        let end = self.used + symbol_slots(p);
+        let end = self.used + p.symbol_octets();
         write_pulses(p, symbol, &mut self.octets[self.used..end]);
         self.used = end;
     }
@@ -65,16 +65,12 @@ impl Outbox {
     pub fn flush<O: Sink>(&mut self, output: &mut O) -> Result<(), Failed>
         ensures bytes { Puts (O.written output.old) (O.written output.new) result self.old }
         ensures held { OnOk result (self.new ≡ []) }
-        ensures cause { HasCause (O.faults output.old) (O.faults output.new) result }
-        ensures mark { O.mark output.new ≡ O.mark output.old }
+        ensures output { SinkAnswers O.faults O.mark output.old output.new result }
     {
         if self.used == 0 {
             return Ok(());
         }
-        match output.put(&self.octets[..self.used]) {
-            Ok(()) => {}
-            Err(failed) => return Err(failed),
-        }
+        output.put(&self.octets[..self.used])?;
         self.used = 0;
         Ok(())
     }
@@ -83,17 +79,13 @@ impl Outbox {
     pub fn add<O: Sink>(&mut self, p: &Profile, symbol: u8, output: &mut O) -> Result<(), Failed>
         requires { symbol < positions p.now.order }
         ensures ok { (start : _) (all : _) → IsPending start (O.written output.old) self.old all
-            → OnOk result (IsPending start (O.written output.new) self.new (all ++ pulses_of p.now symbol)) }
+            → OnOk result (IsPending start (O.written output.new) self.new (all ++ symbol_octets p.now symbol)) }
         ensures cut { (start : _) (all : _) → IsPending start (O.written output.old) self.old all
-            → OnErr result (GrowsByFront start (O.written output.new) (all ++ pulses_of p.now symbol)) }
-        ensures cause { HasCause (O.faults output.old) (O.faults output.new) result }
-        ensures mark { O.mark output.new ≡ O.mark output.old }
+            → OnErr result (GrowsByFront start (O.written output.new) (all ++ symbol_octets p.now symbol)) }
+        ensures output { SinkAnswers O.faults O.mark output.old output.new result }
     {
-        if symbol_slots(p) > self.free() {
-            match self.flush(output) {
-                Ok(()) => {}
-                Err(failed) => return Err(failed),
-            }
+        if p.symbol_octets() > self.free() {
+            self.flush(output)?;
         }
         self.store(p, symbol);
         Ok(())

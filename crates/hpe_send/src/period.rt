@@ -1,11 +1,11 @@
-// One period of the channel: a codeword passes the channel interleaver and goes out behind the codeword marker.
-
-ghost use Rattle.std.specs.Prelude.{◌≡◌, ◌≤◌, ◌<◌, ◌++◌, All, OnOk, OnErr};
+//! One period of the channel: a codeword passes the channel interleaver and goes out behind the codeword marker.
+ghost use Rattle.std.specs.Prelude.{◌≡◌, ◌<◌, ◌++◌, All, OnOk, OnErr};
 ghost use Rattle.std.specs.List.{flat_map};
 ghost use Rattle.hpe_base.specs.ChannelInterleaver.{interleaved_channel};
 ghost use Rattle.hpe_base.specs.Parameters.{positions};
-ghost use Rattle.hpe_base.specs.Slots.{pulses_of};
-ghost use Rattle.hpe_io.specs.Devices.{HasCause, GrowsByFront};
+ghost use Rattle.hpe_base.specs.Slots.{symbol_octets};
+ghost use Rattle.hpe_io.specs.Devices.{GrowsByFront};
+ghost use Rattle.hpe_io.specs.Standing.{SinkAnswers};
 ghost use Rattle.hpe_send.specs.Outgoing.{IsPending};
 ghost use Rattle.hpe_send.specs.Weave.{IsWithin};
 ghost use Rattle.hpe_weave.specs.Weaving.{HasWoven};
@@ -22,7 +22,8 @@ pub fn weave_word(weaver: &mut Weaver, word: &mut [u8])
     ensures profile { weaver.new.parameters ≡ weaver.old.parameters }
     ensures stands { (pushed : _) → HasWoven weaver.old pushed → HasWoven weaver.new (pushed ++ word.old) }
     ensures answers { (pushed : _) → HasWoven weaver.old pushed
-        → interleaved_channel weaver.old.parameters (pushed ++ word.old) ≡ interleaved_channel weaver.old.parameters pushed ++ word.new }
+        → interleaved_channel weaver.old.parameters (pushed ++ word.old)
+        ≡ interleaved_channel weaver.old.parameters pushed ++ word.new }
     ensures within { IsWithin weaver.new }
     ensures word { All (λ s. s < positions weaver.old.parameters.order) word.new }
 {
@@ -40,17 +41,14 @@ fn send_symbols<O: Sink>(
 ) -> Result<(), Failed>
     requires { All (λ s. s < positions p.now.order) symbols.now }
     ensures ok { (start : _) (all : _) → IsPending start (O.written output.old) outbox.old all
-        → OnOk result (IsPending start (O.written output.new) outbox.new (all ++ flat_map (pulses_of p.now) symbols.now)) }
+        → OnOk result (IsPending start (O.written output.new) outbox.new
+        (all ++ flat_map (symbol_octets p.now) symbols.now)) }
     ensures cut { (start : _) (all : _) → IsPending start (O.written output.old) outbox.old all
-        → OnErr result (GrowsByFront start (O.written output.new) (all ++ flat_map (pulses_of p.now) symbols.now)) }
-    ensures cause { HasCause (O.faults output.old) (O.faults output.new) result }
-    ensures mark { O.mark output.new ≡ O.mark output.old }
+        → OnErr result (GrowsByFront start (O.written output.new) (all ++ flat_map (symbol_octets p.now) symbols.now)) }
+    ensures output { SinkAnswers O.faults O.mark output.old output.new result }
 {
     for symbol in symbols {
-        match outbox.add(p, *symbol, output) {
-            Ok(()) => {}
-            Err(failed) => return Err(failed),
-        }
+        outbox.add(p, *symbol, output)?;
     }
     Ok(())
 }
@@ -64,15 +62,13 @@ pub fn send_period<O: Sink>(
 ) -> Result<(), Failed>
     requires { All (λ s. s < positions p.now.order) woven.now }
     ensures ok { (start : _) (all : _) → IsPending start (O.written output.old) outbox.old all
-        → OnOk result (IsPending start (O.written output.new) outbox.new (all ++ flat_map (pulses_of p.now) (p.now.marker ++ woven.now))) }
+        → OnOk result (IsPending start (O.written output.new) outbox.new
+        (all ++ flat_map (symbol_octets p.now) (p.now.marker ++ woven.now))) }
     ensures cut { (start : _) (all : _) → IsPending start (O.written output.old) outbox.old all
-        → OnErr result (GrowsByFront start (O.written output.new) (all ++ flat_map (pulses_of p.now) (p.now.marker ++ woven.now))) }
-    ensures cause { HasCause (O.faults output.old) (O.faults output.new) result }
-    ensures mark { O.mark output.new ≡ O.mark output.old }
+        → OnErr result (GrowsByFront start (O.written output.new)
+        (all ++ flat_map (symbol_octets p.now) (p.now.marker ++ woven.now))) }
+    ensures output { SinkAnswers O.faults O.mark output.old output.new result }
 {
-    match send_symbols(p, p.marker(), outbox, output) {
-        Ok(()) => {}
-        Err(failed) => return Err(failed),
-    }
+    send_symbols(p, p.marker(), outbox, output)?;
     send_symbols(p, woven, outbox, output)
 }

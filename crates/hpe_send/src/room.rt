@@ -1,5 +1,4 @@
-// Room for octets.
-
+//! Room for octets, with a contract on its length that the fields of a new value can be proved by.
 ghost use Rattle.std.specs.Prelude.{◌≡◌, length, IfOk};
 
 use hpe_base::NoMemory;

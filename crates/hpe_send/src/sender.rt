@@ -1,18 +1,15 @@
-// The sender of a link.
-
-ghost use Rattle.std.specs.Prelude.{◌≡◌, ◌<◌, ◌≤◌, ◌+◌, ◌*◌, ◌/◌, ◌%◌, ◌^◌, ℕ, List, [], length, take, IfOk, IsErrOf};
-ghost use Rattle.std.specs.Int.{div_ceil};
+//! The sender of a link: one loop that takes the input piece by piece and sends what each piece completes.
+ghost use Rattle.std.specs.Prelude.{◌≡◌, ◌<◌, ◌≤◌, ◌+◌, ◌%◌, ◌^◌, ℕ, List, length, take, IfOk, IsErrOf};
 ghost use Rattle.std.specs.Io.KnownBytes.{prepend_known};
-ghost use Rattle.hpe_base.specs.Parameters.{block_bits};
 ghost use Rattle.hpe_base.specs.Slots.{slots_of};
-ghost use Rattle.hpe_io.specs.Devices.{Grows, GrowsByFront, Rose, TakesAtMost, TakesCount};
-ghost use Rattle.hpe_send.specs.Sending.{HasCounts, IfCutOff, IfRagged, IfSent, Sends};
+ghost use Rattle.hpe_io.specs.Devices.{Grows, GrowsByFront, TakesAtMost, TakesCount};
+ghost use Rattle.hpe_io.specs.Standing.{SinkStands, SourceStands};
+ghost use Rattle.hpe_send.specs.Sending.{HasCounts, HasReadCause, HasWriteCause, IfCutOff, IfRagged, IfSent, Sends, fault_of};
+ghost use Rattle.hpe_send.specs.declared.sender.SendFault.TheVariants.{Write};
 
-use crate::chain::{Chain, frame_bits};
-use crate::drive::{Unsent, send_all};
-use crate::room::blank_room;
+use crate::chain::Chain;
 use hpe_base::{NoMemory, Profile};
-use hpe_io::{Sink, Source};
+use hpe_io::{Failed, Intake, IntakeFault, Sink, Source};
 use std::alloc::Global;
 use std::marker::Model;
 use thiserror::Error;
@@ -32,13 +29,14 @@ pub struct Sent {
 /// Why not all of an input was sent.
 #[derive(Clone, Copy, Debug, PartialEq, Eq, Error)]
 pub enum SendFault {
-    /// The input failed. The slots of some front of the octets that it gave are written.
+    /// The input failed. Some front of the slots of the octets that it gave is written.
     #[error("the input failed")]
     Read,
     /// The output failed. Some front of the slots is written.
     #[error("the output failed")]
     Write,
-    /// The input has more octets than the limit. One more than the limit was taken.
+    /// The input has more octets than the limit. One more than the limit was taken, and some front of the slots of the
+    /// octets within the limit is written.
     #[error("the input is too long")]
     TooLong,
     /// The input ended within a frame, of which it gave `rest` octets. All frames before it are sent.
@@ -46,15 +44,23 @@ pub enum SendFault {
     Ragged { rest: u64, sent: Sent },
 }
 
-/// What an input of so many octets makes.
-fn sent_of(p: &Profile, octets: u64) -> Sent
-    requires { octets ≤ 2 ^ 40 }
-    ensures frames { result.frames ≡ octets / p.now.frame_octets }
-    ensures words { result.words ≡ div_ceil (result.frames * (32 + 8 * p.now.frame_octets)) (block_bits p.now.rate) }
-{
-    let frames = octets / p.frame_octets() as u64;
-    let words = (frames * frame_bits(p) as u64).div_ceil(p.rate().block() as u64);
-    Sent { frames, words }
+impl From<IntakeFault> for SendFault {
+    ghost from_gives = { λ cause fault. fault ≡ fault_of cause };
+
+    fn from(cause: IntakeFault) -> SendFault {
+        match cause {
+            IntakeFault::Read => SendFault::Read,
+            IntakeFault::TooLong => SendFault::TooLong,
+        }
+    }
+}
+
+impl From<Failed> for SendFault {
+    ghost from_gives = { λ _ fault. fault ≡ Write };
+
+    fn from(_: Failed) -> SendFault {
+        SendFault::Write
+    }
 }
 
 /// The sender of a link: it reads transfer frames and writes slots, one octet for each slot.
@@ -63,7 +69,7 @@ fn sent_of(p: &Profile, octets: u64) -> Sent
 #[derive(Drop)]
 pub struct Sender {
     chain: Chain,
-    buffer: Vec<u8>,
+    intake: Intake,
 }
 
 impl Model for Sender {
@@ -84,12 +90,13 @@ impl Sender {
         ensures { IfOk result (λ s. s ≡ p.now) }
     {
         let chain = Chain::new(alloc, p)?;
-        let buffer = blank_room(alloc, PIECE)?;
-        Ok(Sender { chain, buffer })
+        let intake = Intake::new(alloc).map_err(|_| NoMemory)?;
+        Ok(Sender { chain, intake })
     }
 
-    /// Sends the whole frames of the input, which may have up to `limit` octets: the slots of all periods, and of the
-    /// periods that flush the channel interleaver behind them.
+    /// Sends the whole frames of the input, which may have up to `limit` octets, a number from 1 to 2^40: the slots of
+    /// all periods, and of the periods that flush the channel interleaver behind them. The first failure of the input or
+    /// of the output ends the call.
     pub fn send<I: Source, O: Sink>(
         self,
         limit: u64,
@@ -98,10 +105,12 @@ impl Sender {
     ) -> Result<Sent, SendFault>
         requires limit { (1 ≤ limit) × (limit ≤ 2 ^ 40) }
         ensures ok { IfOk result (λ sent. (octets : List ℕ)
-            × Sends self limit (I.left input.old) (I.left input.new) (O.written output.old) (O.written output.new) octets sent
+            × Sends self limit (I.left input.old) (I.left input.new) (O.written output.old) (O.written output.new)
+            octets sent
             × (length octets % self.frame_octets ≡ 0)) }
         ensures ragged { IfRagged result (λ rest sent. (octets : List ℕ)
-            × Sends self limit (I.left input.old) (I.left input.new) (O.written output.old) (O.written output.new) octets sent
+            × Sends self limit (I.left input.old) (I.left input.new) (O.written output.old) (O.written output.new)
+            octets sent
             × (rest ≡ length octets % self.frame_octets)
             × (0 < rest)) }
         ensures counts { IfSent result (HasCounts self limit) }
@@ -110,32 +119,23 @@ impl Sender {
             × (length octets ≤ limit + 1)
             × GrowsByFront (O.written output.old) (O.written output.new) (slots_of self (take limit octets))) }
         ensures long { IsErrOf result SendFault.TooLong → TakesCount (I.left input.old) (I.left input.new) (limit + 1) }
-        ensures read { IsErrOf result SendFault.Read → Rose (I.faults input.old) (I.faults input.new) }
-        ensures write { IsErrOf result SendFault.Write → Rose (O.faults output.old) (O.faults output.new) }
+        ensures read { HasReadCause (I.faults input.old) (I.faults input.new) result }
+        ensures write { HasWriteCause (O.faults output.old) (O.faults output.new) result }
         ensures taken { TakesAtMost (I.left input.old) (I.left input.new) (limit + 1) }
         ensures grows { Grows (O.written output.old) (O.written output.new) }
-        ensures input_later { I.faults input.old ≤ I.faults input.new }
-        ensures output_later { O.faults output.old ≤ O.faults output.new }
-        ensures input_mark { I.mark input.new ≡ I.mark input.old }
-        ensures output_mark { O.mark output.new ≡ O.mark output.old }
-        ensures build { I.build input.new ≡ I.build input.old }
+        ensures input { SourceStands I.faults I.mark I.build input.old input.new }
+        ensures output { SinkStands O.faults O.mark output.old output.new }
     {
         let Sender {
             mut chain,
-            mut buffer,
+            mut intake,
         } = self;
-        let octets = match send_all(&mut chain, &mut buffer, limit, input, output) {
-            Ok(octets) => octets,
-            Err(Unsent::Read) => return Err(SendFault::Read),
-            Err(Unsent::Write) => return Err(SendFault::Write),
-            Err(Unsent::TooLong) => return Err(SendFault::TooLong),
-        };
-        let sent = sent_of(chain.profile(), octets);
-        let rest = chain.rest();
-        match chain.finish(sent.words, output) {
-            Ok(()) => {}
-            Err(_) => return Err(SendFault::Write),
+        intake.begin(limit);
+        while intake.next(input, PIECE)? {
+            chain.take(intake.piece(), output)?;
         }
+        let sent = chain.sent(intake.taken());
+        let rest = chain.finish(sent.words, output)?;
         if rest == 0 {
             Ok(sent)
         } else {

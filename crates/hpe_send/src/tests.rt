@@ -53,20 +53,9 @@ fn pulses(slots: &[u8]) -> usize {
 /// The built-in profile but for the rows and the delay of the channel interleaver.
 fn interleaved(rows: i64, delay: i64) -> Result<Profile, Fail> {
     let p = Profile::new(&Fields {
-        order: 16,
-        rate: "1/3",
-        frame_octets: 100,
-        frame_marker: 0x1ACF_FC1D,
-        taps: 169,
-        seed: 255,
-        check: 537_149_449,
-        columns: "111",
         rows,
         delay,
-        marker: &[0, 5, 15, 14, 2, 11, 9, 12, 4, 1, 3, 10, 6, 7, 13, 8],
-        repeat: 1,
-        rounds: 16,
-        search: 1,
+        ..Fields::basic()
     })?;
     Ok(p)
 }
@@ -76,18 +65,10 @@ fn order_128() -> Result<Profile, Fail> {
     let p = Profile::new(&Fields {
         order: 128,
         rate: "2/3",
-        frame_octets: 100,
-        frame_marker: 0x1ACF_FC1D,
-        taps: 169,
-        seed: 255,
-        check: 537_149_449,
         columns: "110 010",
         rows: 60,
-        delay: 1,
         marker: &[0, 5, 15, 30, 50, 75, 105, 12, 52, 97, 19, 74, 6, 71, 13, 88],
-        repeat: 1,
-        rounds: 16,
-        search: 1,
+        ..Fields::basic()
     })?;
     Ok(p)
 }
@@ -129,6 +110,36 @@ fn slots_of_a_period(rt: HostRuntime) -> Result<(), Fail> {
     for place in [0, 25, 55, 74, 332, 354] {
         assert_eq!(rt; output.bytes().get(place), Some(&1));
     }
+    Ok(())
+}
+
+/// The slots at two octets each, of which the high one is 0.
+fn widened(alloc: Global, slots: &[u8]) -> Result<Vec<u8>, Fail> {
+    let mut octets = Vec::new(alloc);
+    for slot in slots {
+        octets.push(0)?;
+        octets.push(*slot)?;
+    }
+    Ok(octets)
+}
+
+#[test]
+fn slots_of_two_octets(rt: HostRuntime) -> Result<(), Fail> {
+    let wide = Profile::new(&Fields {
+        count_octets: 2,
+        ..Fields::basic()
+    })?;
+    let octets = octets(rt.alloc(), 100, false)?;
+    let (_, narrow) = send(rt.alloc(), &Profile::basic(), &octets, 64, 100, PERIOD)?;
+    let (ended, output) = send(rt.alloc(), &wide, &octets, 64, 100, 200_000)?;
+    let sent = Sent {
+        frames: 1,
+        words: 1,
+    };
+    assert_eq!(rt; ended, Ok(sent));
+    assert_eq!(rt; output.bytes().len(), 151_840);
+    let expected = widened(rt.alloc(), narrow.bytes())?;
+    assert_eq!(rt; output.bytes(), expected.as_slice());
     Ok(())
 }
 

@@ -16,7 +16,7 @@ pulse_count symbol size slots i = get_or slots (i * size + symbol) 0
 pub record Summing (symbol size : ℕ) (slots : List ℕ) (n place total : ℕ) : Type 0 where
   pub next : place ≡ n * size + symbol
   pub value : total ≡ sum (tabulate n (pulse_count symbol size slots))
-  pub most : total ≤ n * 255
+  pub most : total ≤ n * 65535
 
 -- before the first sending
 pub Summing-none : (symbol size : ℕ) (slots : List ℕ) → Summing symbol size slots 0 symbol 0
@@ -27,7 +27,7 @@ Summing-none symbol size slots = record {
 }
 
 -- one more sending
-pub Summing-more : (symbol size : ℕ) (slots : List ℕ) (n place total count : ℕ) → count ≡ get_or slots place 0 → count < 256 →
+pub Summing-more : (symbol size : ℕ) (slots : List ℕ) (n place total count : ℕ) → count ≡ get_or slots place 0 → count < 65536 →
     Summing symbol size slots n place total → Summing symbol size slots (n + 1) (place + size) (total + count)
 Summing-more symbol size slots n place total count read octet s =
     let at : count ≡ pulse_count symbol size slots n = read ∙ ap (λ k. get_or slots k 0) s.next in
@@ -45,7 +45,7 @@ symbol_pulses p window r = sum (tabulate p.repeat (λ i. get_or window (0 + puls
 pub record Scoring (p : Parameters) (window : List ℕ) (n start score : ℕ) : Type 0 where
   pub next : start ≡ n * symbol_slots p
   pub value : score ≡ sum (tabulate n (symbol_pulses p window))
-  pub most : score ≤ n * 8160
+  pub most : score ≤ n * 2097120
 
 -- before the first symbol
 pub Scoring-none : (p : Parameters) (window : List ℕ) → Scoring p window 0 0 0
@@ -57,7 +57,7 @@ Scoring-none p window = record {
 
 -- one more symbol, with its slots from `start` to `end`
 pub Scoring-more : (p : Parameters) (window : List ℕ) (n start end score total symbol : ℕ) → start + symbol_slots p ≡ end → symbol ≡ get_or p.marker n 0 →
-    symbol < sending_slots p.order → total ≡ sum (tabulate p.repeat (pulse_count symbol (sending_slots p.order) (between start end window))) → total ≤ 8160 →
+    symbol < sending_slots p.order → total ≡ sum (tabulate p.repeat (pulse_count symbol (sending_slots p.order) (between start end window))) → total ≤ 2097120 →
     Scoring p window n start score → Scoring p window (n + 1) end (score + total)
 Scoring-more p window n start end score total symbol slots at low value most s =
     let count : (i : ℕ) → i < p.repeat → pulse_count symbol (sending_slots p.order) (between start end window) i ≡ get_or window (0 + pulse_place p n i) 0 =

@@ -6,5 +6,5 @@ mod reading;
 mod tests;
 mod writing;
 
-pub use reading::{gather, marker_score};
-pub use writing::{symbol_slots, write_pulses, write_symbol};
+pub use reading::{gather, marker_score, read_counts, widen};
+pub use writing::{write_pulses, write_symbol};

@@ -1,4 +1,4 @@
-use crate::{gather, marker_score, symbol_slots, write_pulses, write_symbol};
+use crate::{gather, marker_score, read_counts, write_pulses, write_symbol};
 use hpe_base::{Fields, Order, Profile};
 use hpe_io::{Failed, MemSink};
 use std::test::Fail;
@@ -9,7 +9,7 @@ const FIVE: [u8; 20] = [0, 0, 0, 0, 0, 1, 0, 0, 0, 0, 0, 0, 0, 0, 0, 0, 0, 0, 0,
 #[test]
 fn slots_of_a_symbol(rt: HostRuntime) {
     let p = Profile::basic();
-    assert_eq!(rt; symbol_slots(&p), 20);
+    assert_eq!(rt; p.symbol_slots(), 20);
     let mut slots = [7; 20];
     write_pulses(&p, 5, &mut slots);
     assert_eq!(rt; slots, FIVE);
@@ -43,51 +43,71 @@ fn sums_of_a_symbol(rt: HostRuntime) {
 #[test]
 fn score_of_a_marker(rt: HostRuntime) {
     let p = Profile::basic();
-    let mut window = [3; 320];
+    let mut octets = [3; 320];
+    let mut window = [0; 320];
+    read_counts(&p, &octets, &mut window);
     assert_eq!(rt; marker_score(&p, &window), 48);
     for (r, symbol) in p.marker().iter().enumerate() {
-        write_pulses(&p, *symbol, &mut window[20 * r..20 * r + 20]);
+        write_pulses(&p, *symbol, &mut octets[20 * r..20 * r + 20]);
     }
+    read_counts(&p, &octets, &mut window);
     assert_eq!(rt; marker_score(&p, &window), 16);
 }
 
-/// The built-in profile at order 4, with a marker of one symbol and so many repeats.
-fn repeated(repeat: i64) -> Result<Profile, Fail> {
+/// The built-in profile at order 4, with a marker of one symbol so many repeats and octets of a count.
+fn repeated(repeat: i64, count_octets: i64) -> Result<Profile, Fail> {
     let p = Profile::new(&Fields {
         order: 4,
-        rate: "1/3",
-        frame_octets: 100,
-        frame_marker: 449_838_109,
-        taps: 169,
-        seed: 255,
-        check: 537_149_449,
-        columns: "111",
-        rows: 1,
-        delay: 1,
         marker: &[3],
         repeat,
-        rounds: 16,
-        search: 1,
+        count_octets,
+        ..Fields::basic()
     })?;
     Ok(p)
 }
 
 #[test]
 fn repeats(rt: HostRuntime) -> Result<(), Fail> {
-    let p = repeated(2)?;
+    let p = repeated(2, 1)?;
     assert_eq!(rt; p.order(), Order::P4);
     let mut sink = MemSink::new(rt.alloc(), 10, &[])?;
     assert_eq!(rt; write_symbol(&p, 2, &mut sink), Ok(()));
     assert_eq!(rt; sink.bytes(), [0, 0, 1, 0, 0, 0, 0, 1, 0, 0].as_slice());
 
-    let p = repeated(32)?;
+    let p = repeated(32, 1)?;
     assert_eq!(rt; p.order(), Order::P4);
-    assert_eq!(rt; symbol_slots(&p), 160);
+    assert_eq!(rt; p.symbol_slots(), 160);
     assert_eq!(rt; p.marker().len(), 1);
     let counts = [255; 160];
     let mut sums = [0; 4];
     gather(&p, &counts, &mut sums);
     assert_eq!(rt; sums, [8_160; 4]);
     assert_eq!(rt; marker_score(&p, &counts), 8_160);
+    Ok(())
+}
+
+#[test]
+fn counts_of_two_octets(rt: HostRuntime) -> Result<(), Fail> {
+    let p = repeated(2, 2)?;
+    assert_eq!(rt; p.order(), Order::P4);
+    assert_eq!(rt; p.count_octets(), 2);
+    assert_eq!(rt; p.symbol_octets(), 20);
+    let mut sink = MemSink::new(rt.alloc(), 20, &[])?;
+    assert_eq!(rt; write_symbol(&p, 2, &mut sink), Ok(()));
+    let octets = [0, 0, 0, 0, 0, 1, 0, 0, 0, 0, 0, 0, 0, 0, 0, 1, 0, 0, 0, 0];
+    assert_eq!(rt; sink.bytes(), octets.as_slice());
+    let mut counts = [7; 3];
+    read_counts(&p, &[1, 2, 0, 255, 255, 255], &mut counts);
+    assert_eq!(rt; counts, [258, 255, 65_535]);
+
+    let p = repeated(32, 2)?;
+    assert_eq!(rt; p.order(), Order::P4);
+    assert_eq!(rt; p.symbol_slots(), 160);
+    assert_eq!(rt; p.marker().len(), 1);
+    let counts = [65_535; 160];
+    let mut sums = [0; 4];
+    gather(&p, &counts, &mut sums);
+    assert_eq!(rt; sums, [16_383; 4]);
+    assert_eq!(rt; marker_score(&p, &counts), 2_097_120);
     Ok(())
 }

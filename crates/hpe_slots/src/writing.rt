@@ -2,12 +2,13 @@
 //!
 //! The repeater sends each symbol several times. One sending has a slot for each pulse position, of which that of the
 //! symbol has the pulse, and then a quarter as many guard slots, which stay dark.
-ghost use Rattle.std.specs.Prelude.{◌≡◌, ◌≤◌, ◌<◌, length};
-ghost use Rattle.hpe_base.specs.Parameters.{positions, sending_slots, symbol_slots};
-ghost use Rattle.hpe_base.specs.Slots.{pulses_of};
-ghost use Rattle.hpe_io.specs.Devices.{HasCause, Puts};
+ghost use Rattle.std.specs.Prelude.{◌≡◌, ◌<◌, ◌*◌, length};
+ghost use Rattle.hpe_base.specs.Parameters.{positions, symbol_slots};
+ghost use Rattle.hpe_base.specs.Slots.{symbol_octets};
+ghost use Rattle.hpe_io.specs.Devices.{Puts};
+ghost use Rattle.hpe_io.specs.Standing.{SinkAnswers};
 
-use hpe_base::{Order, Profile};
+use hpe_base::Profile;
 use hpe_io::{Failed, Sink};
 
 /// The most sendings of a symbol.
@@ -19,34 +20,22 @@ const MOST_SENDING_SLOTS: usize = 320;
 /// The most slots of a symbol with its repeats.
 const MOST_SYMBOL_SLOTS: usize = MOST_REPEATS * MOST_SENDING_SLOTS;
 
-/// The slots of one sending, guard slots included.
-pub(crate) fn sending_slots(order: Order) -> usize
-    ensures { result ≡ sending_slots order }
-{
-    5 * order.slots() / 4
-}
+/// The most octets of a symbol with its repeats.
+const MOST_SYMBOL_OCTETS: usize = 2 * MOST_SYMBOL_SLOTS;
 
-/// The slots of one symbol with its repeats, 5 to 10,240.
-pub fn symbol_slots(p: &Profile) -> usize
-    ensures value { result ≡ symbol_slots p.now }
-    ensures some { 0 < result }
-    ensures most { result ≤ 10240 }
-{
-    p.repeat() * sending_slots(p.order())
-}
-
-/// Fills `into`, of as many octets as [`symbol_slots`] says, with the slots of one symbol and its repeats: 1 where the
-/// pulse is, and 0 at the other positions and the guard slots.
+/// Fills `into`, of as many octets as [`Profile::symbol_octets`] says, with the slots of one symbol and its repeats: 1 where the
+/// pulse is, and 0 at the other positions and the guard slots. Of the octets of a slot the last carries it.
 ///
 /// These are the repeater and the guard slots. It is called for each symbol that is sent, so it only adds.
 pub fn write_pulses(p: &Profile, symbol: u8, into: &mut [u8])
     requires symbol { symbol < positions p.now.order }
-    requires size { length into.old ≡ symbol_slots p.now }
-    ensures { into.new ≡ pulses_of p.now symbol }
+    requires size { length into.old ≡ p.now.count_octets * symbol_slots p.now }
+    ensures { into.new ≡ symbol_octets p.now symbol }
 {
-    let size = sending_slots(p.order());
+    let octets = p.count_octets();
+    let size = octets * p.order().sending_slots();
     into.fill(0);
-    let mut place = symbol as usize;
+    let mut place = octets * symbol as usize + octets - 1;
     for _ in 0..p.repeat() {
         into[place] = 1;
         place += size;
@@ -54,22 +43,21 @@ pub fn write_pulses(p: &Profile, symbol: u8, into: &mut [u8])
 }
 
 /// Room for the slots of any symbol.
-fn blank_slots() -> [u8; MOST_SYMBOL_SLOTS]
-    ensures { length result ≡ 10240 }
+fn blank_slots() -> [u8; MOST_SYMBOL_OCTETS]
+    ensures { length result ≡ 20480 }
 {
-    [0; MOST_SYMBOL_SLOTS]
+    [0; MOST_SYMBOL_OCTETS]
 }
 
 /// Puts the slots of one symbol and its repeats, those of [`write_pulses`], in one piece. After `Failed` some front of
 /// them is put.
 pub fn write_symbol<O: Sink>(p: &Profile, symbol: u8, out: &mut O) -> Result<(), Failed>
     requires { symbol < positions p.now.order }
-    ensures bytes { Puts (O.written out.old) (O.written out.new) result (pulses_of p.now symbol) }
-    ensures cause { HasCause (O.faults out.old) (O.faults out.new) result }
-    ensures mark { O.mark out.new ≡ O.mark out.old }
+    ensures bytes { Puts (O.written out.old) (O.written out.new) result (symbol_octets p.now symbol) }
+    ensures sink { SinkAnswers O.faults O.mark out.old out.new result }
 {
     let mut room = blank_slots();
-    let slots = &mut room[..symbol_slots(p)];
+    let slots = &mut room[..p.symbol_octets()];
     write_pulses(p, symbol, slots);
     out.put(slots)
 }

@@ -3,7 +3,7 @@ use Rattle.std.proofs.Common.{◌≡◌, ℕ, zero, suc, ◌+◌, ◌*◌, ◌/�
 use Rattle.std.proofs.lemmas.Int.{ints}
 use Rattle.hpe_base.specs.Trellis.{walk, ends, IsPath}
 use Rattle.hpe_base.proofs.Greatest.{le_trans}
-use Rattle.hpe_base.proofs.Trellis.{Fore, Back, IsRun, path-append, ends-append, ends-below}
+use Rattle.hpe_base.proofs.Trellis.{Fore, Back, IsRun, path-append, ends-append, ends-below, stage-suc}
 use Rattle.hpe_base.specs.Sizes.{Within, AllWithin}
 use Rattle.hpe_base.specs.ConvolutionalCode.{selected}
 use Rattle.hpe_lane.specs.OuterStage.{edge_outputs, outer_next}
@@ -18,9 +18,6 @@ abbrev pub kept_count : List (List Bool) → ℕ → ℕ → ℕ
 kept_count columns t zero = 0
 kept_count columns t (suc n) = width columns t + kept_count columns (t + 1) n
 
-step_on : (t n : ℕ) → t + suc n ≡ t + 1 + n
-step_on t n = omega arith
-
 regroup : (a b c : ℕ) → a + (b + c) ≡ a + b + c
 regroup a b c = omega arith
 
@@ -31,7 +28,7 @@ kept-count columns t (suc n) =
     regroup (kept_before columns t) (width columns t) (kept_count columns (t + 1) n)
     ∙ ap (λ (k : ℕ). kept_before columns k + kept_count columns (t + 1) n) (sym (add-one t))
     ∙ kept-count columns (t + 1) n
-    ∙ ap (kept_before columns) (sym (step_on t n))
+    ∙ ap (kept_before columns) (sym (stage-suc t n))
 
 -- from step 0 on they are all
 pub kept-count-all : (columns : List (List Bool)) (n : ℕ) → kept_count columns 0 n ≡ kept_before columns n

@@ -1,14 +1,15 @@
 -- What is kept splits at every step, and the outer score is that of a path.
 use Rattle.std.proofs.Common.{◌≡◌, ℕ, zero, suc, ◌+◌, ◌-◌, ◌*◌, ◌/◌, ◌%◌, ◌<◌, ◌≤◌, sym, ◌∙◌, ap, ap₂, refl, arith, ℤ, pos, ◌+ℤ◌, List, [], ◌∷◌, ◌++◌, length, drop, get_or, Bool, true, false, cond, add-zero, zero-add, add-one, append_assoc, append-nil, length-append, replicate}
 use Rattle.std.specs.Prelude.{nat_eq}
-use Rattle.std.proofs.lemmas.Int.{ints}
 use Rattle.std.proofs.lemmas.Bool.{le-leb}
 use Rattle.std.proofs.lemmas.List.{drop-drop, length-replicate}
+use Rattle.std.proofs.Math.IntN.{+ℤ_assoc, +ℤ_idl}
 use Rattle.hpe_base.specs.Trellis.{walk, IsPath}
 use Rattle.hpe_base.specs.PathScores.{chosen_sum}
 use Rattle.hpe_base.specs.Lists.{joined}
 use Rattle.hpe_base.specs.ConvolutionalCode.{earlier, outputs, selected, kept_at, code_bits}
-use Rattle.hpe_base.proofs.Tabulated.{joined-same}
+use Rattle.hpe_base.proofs.Tabulated.{joined-same, joined-none}
+use Rattle.hpe_base.proofs.Trellis.{stage-suc, earlier-none, chosen_sum-none}
 use Rattle.hpe_lane.specs.OuterStage.{outer_next, edge_outputs}
 use Rattle.hpe_lane.proofs.OuterEdges.{outer-stays}
 use Rattle.hpe_trellis.specs.OuterTrellis.{column, width, kept_before, outer_edge}
@@ -27,10 +28,6 @@ joined-first : {X : Type 0} (n : ℕ) (f : ℕ → List X) → joined (suc n) f 
 unfolding joined
 joined-first zero f = sym (append-nil (f 0))
 joined-first (suc n) f = ap (λ xs. xs ++ f (suc n)) (joined-first n f) ∙ append_assoc (f 0) (joined n (λ k. f (suc k))) (f (suc n))
-
-joined_none : {X : Type 0} (f : ℕ → List X) → joined 0 f ≡ []
-unfolding joined
-joined_none f = refl
 
 -- the input one step before step s, and two steps before
 abbrev prior1 : ℕ → List ℕ → ℕ → ℕ
@@ -53,17 +50,14 @@ prior2-cons : (a x : ℕ) (u : List ℕ) (s : ℕ) → prior1 a (x ∷ u) s ≡ 
 prior2-cons a x u zero = refl
 prior2-cons a x u (suc s) = prior1-cons a x u s
 
-step_on : (t s : ℕ) → t + suc s ≡ t + 1 + s
-step_on t s = omega arith
-
 placed-cons : (columns : List (List Bool)) (t a b x : ℕ) (u : List ℕ) (s : ℕ) → placed columns t a b (x ∷ u) (suc s) ≡ placed columns (t + 1) x a u s
 placed-cons columns t a b x u s =
-    ap (λ (k : ℕ). selected (column columns k) (outputs_after (get_or u s 0) (get_or (x ∷ u) s 0) (prior1 a (x ∷ u) s))) (step_on t s)
+    ap (λ (k : ℕ). selected (column columns k) (outputs_after (get_or u s 0) (get_or (x ∷ u) s 0) (prior1 a (x ∷ u) s))) (stage-suc t s)
     ∙ ap₂ (λ (y z : ℕ). selected (column columns (t + 1 + s)) (outputs_after (get_or u s 0) y z)) (prior1-cons a x u s) (prior2-cons a x u s)
 
 -- all steps from step t on
 placed-is : (columns : List (List Bool)) (t a b : ℕ) (u : List ℕ) → joined (length u) (placed columns t a b u) ≡ kept_from columns t a b u
-placed-is columns t a b [] = joined_none (placed columns t a b [])
+placed-is columns t a b [] = joined-none (placed columns t a b [])
 placed-is columns t a b (x ∷ u) =
     joined-first (length u) (placed columns t a b (x ∷ u))
     ∙ ap₂ (λ (xs ys : List ℕ). xs ++ ys) (ap (λ (k : ℕ). selected (column columns k) (outputs_after x a b)) (add-zero t))
@@ -75,13 +69,6 @@ less_one t = omega arith
 
 less_two : (t : ℕ) → suc (suc t) - 2 ≡ t
 less_two t = omega arith
-
--- the input of a step, that before it and that before that
-earlier_here : (u : List ℕ) (t : ℕ) → earlier u t 0 ≡ get_or u t 0
-earlier_here u t =
-    let h : 0 ≤ t = omega arith in
-    let e : t - 0 ≡ t = omega arith in
-    ap (λ (b : Bool). cond b (get_or u (t - 0) 0) 0) (le-leb 0 t h) ∙ ap (λ (k : ℕ). get_or u k 0) e
 
 earlier_last : (u : List ℕ) (t : ℕ) → earlier u t 1 ≡ prior1 0 u t
 earlier_last u zero = refl
@@ -98,7 +85,7 @@ earlier_before u (suc (suc t)) =
 
 outputs-are : (u : List ℕ) (t : ℕ) → outputs u t ≡ outputs_after (get_or u t 0) (prior1 0 u t) (prior2 0 0 u t)
 outputs-are u t =
-    ap₂ (λ (x b : ℕ). ((x + b) % 2) ∷ ((x + earlier u t 1 + b) % 2) ∷ ((x + earlier u t 1 + b) % 2) ∷ []) (earlier_here u t) (earlier_before u t)
+    ap₂ (λ (x b : ℕ). ((x + b) % 2) ∷ ((x + earlier u t 1 + b) % 2) ∷ ((x + earlier u t 1 + b) % 2) ∷ []) (earlier-none u t) (earlier_before u t)
     ∙ ap (λ (a : ℕ). outputs_after (get_or u t 0) a (prior2 0 0 u t)) (earlier_last u t)
 
 -- what a step keeps
@@ -131,7 +118,7 @@ length-kept_from columns t a b (x ∷ u) =
     let here : length (selected (column columns t) (outputs_after x a b)) ≡ width columns t = length-kept (column columns t) (outputs_after x a b) (0 ∷ 0 ∷ 0 ∷ []) refl in
     let rest : kept_before columns (t + 1) + length (kept_from columns (t + 1) x a u) ≡ kept_before columns (t + 1 + length u) = length-kept_from columns (t + 1) x a u in
     let next : kept_before columns t + width columns t ≡ kept_before columns (t + 1) = next_before columns t in
-    let all : kept_before columns (t + suc (length u)) ≡ kept_before columns (t + 1 + length u) = ap (kept_before columns) (step_on t (length u)) in
+    let all : kept_before columns (t + suc (length u)) ≡ kept_before columns (t + 1 + length u) = ap (kept_before columns) (stage-suc t (length u)) in
     omega (arith, length-append (selected (column columns t) (outputs_after x a b)) (kept_from columns (t + 1) x a u))
 
 -- the code bits of n steps fill the places before step n
@@ -146,29 +133,18 @@ kept_total columns n m h =
     let e : length (replicate n 0) ≡ n = length-replicate n 0 in
     h (replicate n 0) e ∙ length-code columns (replicate n 0) ∙ ap (kept_before columns) e
 
-assoc_z : (a b c : ℤ) → (a +ℤ b) +ℤ c ≡ a +ℤ (b +ℤ c)
-assoc_z a b c = omega (arith, ints)
-
-zero_z : (a : ℤ) → a ≡ pos 0 +ℤ a
-zero_z a = omega (arith, ints)
-
 chosen_empty : (n : ℕ) (k : List ℕ) → pos 0 ≡ pos 0 +ℤ chosen_sum (drop n []) k
 chosen_empty zero k = refl
 chosen_empty (suc n) k = refl
-
--- no bit chooses a number
-pub chosen_none : (l : List ℤ) → chosen_sum l [] ≡ pos 0
-chosen_none [] = refl
-chosen_none (z ∷ l) = refl
 
 -- the sum over two lists of bits
 chosen-append : (l : List ℤ) (j k : List ℕ) → chosen_sum l (j ++ k) ≡ chosen_sum l j +ℤ chosen_sum (drop (length j) l) k
 chosen-append [] [] k = refl
 chosen-append [] (b ∷ j) k = chosen_empty (suc (length j)) k
-chosen-append (z ∷ l) [] k = zero_z (chosen_sum (z ∷ l) k)
+chosen-append (z ∷ l) [] k = sym (+ℤ_idl (chosen_sum (z ∷ l) k))
 chosen-append (z ∷ l) (b ∷ j) k =
     ap (λ (y : ℤ). cond (nat_eq b 1) z (pos 0) +ℤ y) (chosen-append l j k)
-    ∙ sym (assoc_z (cond (nat_eq b 1) z (pos 0)) (chosen_sum l j) (chosen_sum (drop (length j) l) k))
+    ∙ sym (+ℤ_assoc (cond (nat_eq b 1) z (pos 0)) (chosen_sum l j) (chosen_sum (drop (length j) l) k))
 
 -- the next state has the input, and the last input before it
 pub halves : (x p : ℕ) → p < 4 → (2 * x + p / 2) / 2 ≡ x
@@ -180,7 +156,7 @@ parity x p h = omega arith
 -- from step t on
 outer-walk-is : (columns : List (List Bool)) (l : List ℤ) (n t p : ℕ) (us : List ℕ) → p < 4 → IsPath 2 n us
     → chosen_sum (drop (kept_before columns t) l) (kept_from columns t (p / 2) (p % 2) us) ≡ walk (outer_edge columns l) outer_next t p us
-outer-walk-is columns l zero t p [] low h = chosen_none (drop (kept_before columns t) l)
+outer-walk-is columns l zero t p [] low h = chosen_sum-none (drop (kept_before columns t) l)
 outer-walk-is columns l zero t p (x ∷ us) low h = absurd h
 outer-walk-is columns l (suc n) t p [] low h = absurd h
 outer-walk-is columns l (suc n) t p (x ∷ us) low h =

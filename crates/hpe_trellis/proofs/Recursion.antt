@@ -1,5 +1,5 @@
 -- The rows and the soft values, step by step.
-use Rattle.std.proofs.Common.{◌≡◌, ◌≢◌, ℕ, zero, suc, ◌+◌, ◌-◌, ◌%◌, ◌<◌, ◌≤◌, ⊎_elim, sym, ◌∙◌, ap, ap₂, subst, refl, arith, ℤ, pos, negsuc, ◌+ℤ◌, List, [], ◌∷◌, length, drop, get_or, set, get_or-set_same, get_or-set_other, Bool, add-one}
+use Rattle.std.proofs.Common.{◌≡◌, ◌≢◌, ℕ, zero, suc, ◌+◌, ◌-◌, ◌%◌, ◌<◌, ◌≤◌, ⊎_elim, sym, ◌∙◌, ap, ap₂, subst, refl, arith, ℤ, pos, negsuc, ◌+ℤ◌, List, [], ◌∷◌, length, drop, get_or, Bool, add-one}
 use Rattle.std.proofs.lemmas.Bool.{cases_lt}
 use Rattle.std.proofs.Math.Nat.{mod-add-mod, add-mod_right}
 use Rattle.hpe_base.specs.Greatest.{IsGreatest, IsSoft}
@@ -8,14 +8,14 @@ use Rattle.hpe_base.specs.PathScores.{chosen_sum}
 use Rattle.hpe_base.specs.Parameters.{flags_set}
 use Rattle.hpe_base.proofs.KeptLength.{length-selected}
 use Rattle.hpe_base.proofs.Greatest.{IsGreatest-widen}
-use Rattle.hpe_base.proofs.Trellis.{Fore, fore_first, fore_step, back_step}
+use Rattle.hpe_base.proofs.Trellis.{Fore, Back, fore_first, fore_step, back_last, back_step}
 use Rattle.hpe_base.specs.Sizes.{number_at, AllWithin}
 use Rattle.hpe_base.specs.ConvolutionalCode.{selected}
 use Rattle.hpe_lane.specs.OuterStage.{edge_outputs, outer_next, edge_sum, soft_bit}
 use Rattle.hpe_lane.proofs.OuterEdges.{outer-stays}
 use Rattle.hpe_trellis.proofs.KeptBits.{length-kept}
 use Rattle.hpe_lane.proofs.Soft.{IsGreatest-score, IsSoft-score}
-use Rattle.hpe_trellis.specs.OuterTrellis.{column, width, kept_before, outer_edge, outer_start, OuterRows, OuterBack, IsInformationSoft, IsCodeSoft, SoftFrom, put_all}
+use Rattle.hpe_trellis.specs.OuterTrellis.{column, width, kept_before, outer_edge, outer_start, OuterFore, OuterBack, IsInformationSoft, IsCodeSoft, SoftFrom, put_all}
 use Rattle.hpe_lane.proofs.OuterEdges.{at_four}
 use Rattle.hpe_trellis.proofs.Runs.{code_bit, soft-info, soft-code}
 use Rattle.hpe_trellis.proofs.StepOutputs.{flag_index, selected-index, put-at, put-above}
@@ -38,12 +38,15 @@ first_value : (q : ℕ) → q < 4 → outer_start q ≡ number_at first_row q
 first_value = at_four (λ q. outer_start q ≡ number_at first_row q) refl refl refl refl
 
 -- before the first step
-pub OuterRows-first : (columns : List (List Bool)) (l : List ℤ) (rows : List (List ℤ)) → 0 < length rows → OuterRows 0 columns l (set rows 0 first_row)
-OuterRows-first columns l rows room = record {
-  top = λ s q le low. let zs : 0 ≡ s = omega arith in
-      subst (λ (k : ℕ). Fore 2 4 (outer_edge columns l) outer_next outer_start k q (number_at (get_or (set rows 0 first_row) k []) q)) zs
-      (subst (λ (row : List ℤ). Fore 2 4 (outer_edge columns l) outer_next outer_start 0 q (number_at row q)) (sym (get_or-set_same rows 0 first_row [] room))
-      (subst (Fore 2 4 (outer_edge columns l) outer_next outer_start 0 q) (first_value q low) (fore_first 2 4 (outer_edge columns l) outer_next outer_start q low)));
+pub OuterFore-first : (columns : List (List Bool)) (l : List ℤ) → OuterFore 0 columns l first_row
+OuterFore-first columns l = record {
+  top = λ q low. subst (Fore 2 4 (outer_edge columns l) outer_next outer_start 0 q) (first_value q low) (fore_first 2 4 (outer_edge columns l) outer_next outer_start q low);
+}
+
+-- after the last step
+pub OuterBack-last : (columns : List (List Bool)) (l : List ℤ) (t : ℕ) → OuterBack t 0 columns l first_row
+OuterBack-last columns l t = record {
+  top = λ q low. subst (Back 2 (outer_edge columns l) outer_next outer_start t 0 q) (first_value q low) (back_last 2 (outer_edge columns l) outer_next outer_start t q);
 }
 
 -- the kernel's edges are those of the step
@@ -51,22 +54,12 @@ abbrev pub StepIs : List (List Bool) → List ℤ → ℕ → List ℤ → Type 
 StepIs columns l t r = (p x : ℕ) → edge_sum r p x ≡ outer_edge columns l t p x
 
 -- one step on
-pub OuterRows-more : (columns : List (List Bool)) (l : List ℤ) (t : ℕ) (r : List ℤ) (rows : List (List ℤ)) (row next : List ℤ) → t + 1 < length rows → StepIs columns l t r → OuterRows t columns l rows
-    → get_or rows t [] ≡ row
+pub OuterFore-more : (columns : List (List Bool)) (l : List ℤ) (t : ℕ) (r row next : List ℤ) → StepIs columns l t r → OuterFore t columns l row
     → ((q : ℕ) → q < 4 → IsGreatest (λ (e : ℕ × ℕ). IsEdge 2 4 e × (outer_next e.0 e.1 ≡ q)) (λ e. number_at row e.0 +ℤ edge_sum r e.0 e.1) (number_at next q))
-    → OuterRows (t + 1) columns l (set rows (t + 1) next)
-OuterRows-more columns l t r rows row next room same so_far is best = record {
-  top = λ s q le low.
-      ⊎_elim
-      (λ (h : s < t + 1). let ne : s ≢ t + 1 = omega arith in let k : s ≤ t = omega arith in
-      subst (λ (here : List ℤ). Fore 2 4 (outer_edge columns l) outer_next outer_start s q (number_at here q)) (sym (get_or-set_other rows (t + 1) s next [] ne)) (so_far.top s q k low))
-      (λ (h : t + 1 ≤ s). let eq : t + 1 ≡ s = omega arith in
-      subst (λ (k : ℕ). Fore 2 4 (outer_edge columns l) outer_next outer_start k q (number_at (get_or (set rows (t + 1) next) k []) q)) eq
-      (subst (λ (here : List ℤ). Fore 2 4 (outer_edge columns l) outer_next outer_start (t + 1) q (number_at here q)) (sym (get_or-set_same rows (t + 1) next [] room))
-      (fore_step 2 4 (outer_edge columns l) outer_next outer_start outer-stays t q (number_at next q) (number_at row)
-      (λ p lp. subst (λ (here : List ℤ). Fore 2 4 (outer_edge columns l) outer_next outer_start t p (number_at here p)) is (so_far.top t p (omega arith) lp))
-      (IsGreatest-score (λ e p. ap (λ (z : ℤ). number_at row e.0 +ℤ z) (sym (same e.0 e.1))) (best q low)))))
-      (cases_lt s (t + 1));
+    → OuterFore (t + 1) columns l next
+OuterFore-more columns l t r row next same before best = record {
+  top = λ q low. fore_step 2 4 (outer_edge columns l) outer_next outer_start outer-stays t q (number_at next q) (number_at row) before.top
+      (IsGreatest-score (λ e p. ap (λ (z : ℤ). number_at row e.0 +ℤ z) (sym (same e.0 e.1))) (best q low));
 }
 
 -- one step back
@@ -79,15 +72,15 @@ OuterBack-more columns l t left r row next same later best = record {
 }
 
 module _ (columns : List (List Bool)) (l : List ℤ) (within : AllWithin 16383 l) (n t : ℕ) (two : 2 ≤ n) (cap : kept_before columns (n + 2) ≤ 15120) (long : length l ≡ kept_before columns (n + 2))
-    (left : ℕ) (all : t + suc left ≡ n + 2) (rows : List (List ℤ)) (brow r soft : List ℤ) (same : StepIs columns l t r)
-    (so_far : OuterRows (n + 2) columns l rows) (later : OuterBack (t + 1) left columns l brow)
-    (values : (k : ℕ) → k < 4 → IsSoft (IsEdge 2 4) (λ (e : ℕ × ℕ). soft_bit k e.0 e.1) (λ e. number_at (get_or rows t []) e.0 +ℤ (edge_sum r e.0 e.1 +ℤ number_at brow (outer_next e.0 e.1))) (number_at soft k)) where
-  values_are : (k : ℕ) → k < 4 → IsSoft (IsEdge 2 4) (λ (e : ℕ × ℕ). soft_bit k e.0 e.1) (λ e. number_at (get_or rows t []) e.0 +ℤ (outer_edge columns l t e.0 e.1 +ℤ number_at brow (outer_next e.0 e.1))) (number_at soft k)
-  values_are k h = IsSoft-score (λ e p. ap (λ (z : ℤ). number_at (get_or rows t []) e.0 +ℤ (z +ℤ number_at brow (outer_next e.0 e.1))) (sym (same e.0 e.1))) (values k h)
+    (left : ℕ) (all : t + suc left ≡ n + 2) (fore brow r soft : List ℤ) (same : StepIs columns l t r)
+    (so_far : OuterFore t columns l fore) (later : OuterBack (t + 1) left columns l brow)
+    (values : (k : ℕ) → k < 4 → IsSoft (IsEdge 2 4) (λ (e : ℕ × ℕ). soft_bit k e.0 e.1) (λ e. number_at fore e.0 +ℤ (edge_sum r e.0 e.1 +ℤ number_at brow (outer_next e.0 e.1))) (number_at soft k)) where
+  values_are : (k : ℕ) → k < 4 → IsSoft (IsEdge 2 4) (λ (e : ℕ × ℕ). soft_bit k e.0 e.1) (λ e. number_at fore e.0 +ℤ (outer_edge columns l t e.0 e.1 +ℤ number_at brow (outer_next e.0 e.1))) (number_at soft k)
+  values_are k h = IsSoft-score (λ e p. ap (λ (z : ℤ). number_at fore e.0 +ℤ (z +ℤ number_at brow (outer_next e.0 e.1))) (sym (same e.0 e.1))) (values k h)
 
   -- the soft value of the information bit of a step
   pub info-here : t < n → IsInformationSoft columns l n t (number_at soft 0)
-  info-here lt = soft-info columns l within n t cap left all rows brow so_far later (number_at soft 0) lt (values_are 0 (omega arith))
+  info-here lt = soft-info columns l within n t cap left all fore brow so_far later (number_at soft 0) lt (values_are 0 (omega arith))
 
   index_low : (i : ℕ) → i < width columns t → suc (flag_index (column columns t) i) < 4
   index_low i h = let w = selected-index (column columns t) (0 ∷ 0 ∷ 0 ∷ []) i h in omega (arith, w.0)
@@ -98,10 +91,10 @@ module _ (columns : List (List Bool)) (l : List ℤ) (within : AllWithin 16383 l
       let k : ℕ = suc (flag_index (column columns t) i) in
       let bit : (p x : ℕ) → soft_bit k p x ≡ code_bit columns t i p x = λ p x.
       sym (selected-index (column columns t) (edge_outputs p x) i (subst (λ (j : ℕ). i < j) (length-kept (column columns t) (0 ∷ 0 ∷ 0 ∷ []) (edge_outputs p x) refl) h)).1 in
-      soft-code columns l within n t cap left all rows brow so_far later i (number_at soft k) two h (IsSoft-bits (λ e. bit e.0 e.1) (values_are k (index_low i h)))
+      soft-code columns l within n t cap left all fore brow so_far later i (number_at soft k) two h (IsSoft-bits (λ e. bit e.0 e.1) (values_are k (index_low i h)))
 
 -- later steps have more kept bits before them
-before-mono : (columns : List (List Bool)) (n t : ℕ) → t ≤ n → kept_before columns t ≤ kept_before columns n
+pub before-mono : (columns : List (List Bool)) (n t : ℕ) → t ≤ n → kept_before columns t ≤ kept_before columns n
 before-mono columns zero t h = let e : t ≡ 0 = omega arith in subst (λ (k : ℕ). kept_before columns k ≤ 0) (sym e) (omega arith)
 before-mono columns (suc n) t h =
     ⊎_elim (λ (s : t < suc n). let r = before-mono columns n t (omega arith) in omega arith)
@@ -115,6 +108,12 @@ step_room columns n t at len h e f = let m : kept_before columns (suc t) ≤ kep
 -- no step has more kept bits before it than there are
 pub before_cap : (columns : List (List Bool)) (n t len : ℕ) → t ≤ n → len ≡ kept_before columns n → len ≤ 15120 → kept_before columns t ≤ 15120
 before_cap columns n t len h e k = let m = before-mono columns n t h in omega arith
+
+pub same_start : (s : ℕ) → s ≡ s + 0
+same_start s = omega arith
+
+pub next_start : (s i : ℕ) → s + i + 1 ≡ s + (i + 1)
+next_start s i = omega arith
 
 -- one step more
 pub before_next : (columns : List (List Bool)) (t : ℕ) → kept_before columns (t + 1) ≡ kept_before columns t + width columns t

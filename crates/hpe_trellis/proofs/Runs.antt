@@ -18,7 +18,7 @@ use Rattle.hpe_base.specs.PathScores.{outer_score}
 use Rattle.hpe_lane.specs.OuterStage.{edge_outputs, outer_next}
 use Rattle.hpe_lane.proofs.OuterEdges.{outer-stays}
 use Rattle.hpe_trellis.proofs.KeptBits.{length-kept, outer-score-is, kept_from, code_bits-are, halves, parity}
-use Rattle.hpe_trellis.specs.OuterTrellis.{column, width, kept_before, outer_edge, outer_start, OuterRows, OuterBack, IsInformationSoft, IsCodeSoft}
+use Rattle.hpe_trellis.specs.OuterTrellis.{column, width, kept_before, outer_edge, outer_start, OuterFore, OuterBack, IsInformationSoft, IsCodeSoft}
 use Rattle.hpe_trellis.proofs.Bounds.{kept_count, kept-count-all, outer-walk-within, start_cases, zeros-path}
 
 step_on : (t s : ℕ) → t + 1 + s ≡ t + suc s
@@ -181,14 +181,14 @@ module _ (columns : List (List Bool)) (l : List ℤ) (within : AllWithin 16383 l
   pub outer-top : (z : ℤ) → IsGreatest (λ (r : ℕ × List ℕ). IsRun 2 4 (n + 2) r × Class r) scored_run z → top_from asked (outer_score columns l) n [] ≡ Some z
   outer-top z g = top-is asked (outer_score columns l) n z (words z (only_real z g))
 
-  module _ (left : ℕ) (all : t + suc left ≡ n + 2) (rows : List (List ℤ)) (brow : List ℤ) (so_far : OuterRows (n + 2) columns l rows) (later : OuterBack (t + 1) left columns l brow) where
+  module _ (left : ℕ) (all : t + suc left ≡ n + 2) (fore brow : List ℤ) (so_far : OuterFore t columns l fore) (later : OuterBack (t + 1) left columns l brow) where
     -- so a row, the edges of its step and a row from the other side meet in the top
     pub outer-meets : (z : ℤ)
-        → IsGreatest (λ (e : ℕ × ℕ). IsEdge 2 4 e × class e.0 e.1) (λ e. number_at (get_or rows t []) e.0 +ℤ (outer_edge columns l t e.0 e.1 +ℤ number_at brow (outer_next e.0 e.1))) z
+        → IsGreatest (λ (e : ℕ × ℕ). IsEdge 2 4 e × class e.0 e.1) (λ e. number_at fore e.0 +ℤ (outer_edge columns l t e.0 e.1 +ℤ number_at brow (outer_next e.0 e.1))) z
         → top_from asked (outer_score columns l) n [] ≡ Some z
     outer-meets z best =
-        let runs = meet 2 4 (outer_edge columns l) outer_next outer_start outer-stays outer_start class t left (number_at (get_or rows t [])) (number_at brow)
-        (λ p h. so_far.top t p (omega arith) h) later.top z best in
+        let runs = meet 2 4 (outer_edge columns l) outer_next outer_start outer-stays outer_start class t left (number_at fore) (number_at brow)
+        so_far.top later.top z best in
         outer-top z (subst (λ (k : ℕ). IsGreatest (λ (r : ℕ × List ℕ). IsRun 2 4 k r × Class r) scored_run z) all runs)
 
 abbrev unit_run : ℕ → ℕ → ℕ → List ℕ
@@ -358,9 +358,9 @@ unfolding code_soft_value
 code-soft columns l n i z one none e a b = record { tops = both_tops (code_top columns l n i) one none a b; value = e ∙ sym (ap₂ difference a b) }
 
 module _ (columns : List (List Bool)) (l : List ℤ) (within : AllWithin 16383 l) (n t : ℕ) (cap : kept_before columns (n + 2) ≤ 15120)
-    (left : ℕ) (all : t + suc left ≡ n + 2) (rows : List (List ℤ)) (brow : List ℤ) (so_far : OuterRows (n + 2) columns l rows) (later : OuterBack (t + 1) left columns l brow) where
+    (left : ℕ) (all : t + suc left ≡ n + 2) (fore brow : List ℤ) (so_far : OuterFore t columns l fore) (later : OuterBack (t + 1) left columns l brow) where
   abbrev edge_score : ℕ × ℕ → ℤ
-  edge_score e = number_at (get_or rows t []) e.0 +ℤ (outer_edge columns l t e.0 e.1 +ℤ number_at brow (outer_next e.0 e.1))
+  edge_score e = number_at fore e.0 +ℤ (outer_edge columns l t e.0 e.1 +ℤ number_at brow (outer_next e.0 e.1))
 
   -- the top of an information bit
   info_best : (b : ℕ) (z : ℤ) → b < 2 → t < n → IsGreatest (λ (e : ℕ × ℕ). IsEdge 2 4 e × (e.1 ≡ b)) edge_score z → information_top columns l n t b ≡ Some z
@@ -369,7 +369,7 @@ module _ (columns : List (List Bool)) (l : List ℤ) (within : AllWithin 16383 l
       outer-meets columns l within n t cap (λ (p x : ℕ). x ≡ b) (info_asked t b) (sample_info n t b h lt)
       (λ w p e. free_get n t w p lt ∙ eqb-true (get_or w t 0) b e)
       (λ w p e. bit_same (get_or w t 0) b (sym (free_get n t w p lt) ∙ e))
-      left all rows brow so_far later z best
+      left all fore brow so_far later z best
 
   -- the soft value of an information bit
   pub soft-info : (z : ℤ) → t < n → IsSoft (IsEdge 2 4) (λ (e : ℕ × ℕ). e.1) edge_score z → IsInformationSoft columns l n t z
@@ -384,7 +384,7 @@ module _ (columns : List (List Bool)) (l : List ℤ) (within : AllWithin 16383 l
       let lt : t < n + 2 = omega arith in
       outer-meets columns l within n t cap (CodeClass columns t i b) (code_asked columns (kept_before columns t + i) b) (sample_code columns n t i b two h lt li)
       (code_there columns n t i b lt li) (code_back columns n t i b lt li)
-      left all rows brow so_far later z best
+      left all fore brow so_far later z best
 
   -- the soft value of a code bit
   pub soft-code : (i : ℕ) (z : ℤ) → 2 ≤ n → i < width columns t → IsSoft (IsEdge 2 4) (λ (e : ℕ × ℕ). code_bit columns t i e.0 e.1) edge_score z → IsCodeSoft columns l n (kept_before columns t + i) z

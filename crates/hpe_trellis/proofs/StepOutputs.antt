@@ -8,8 +8,8 @@ use Rattle.hpe_base.specs.Parameters.{flags_set}
 use Rattle.hpe_base.proofs.KeptLength.{length-selected}
 use Rattle.hpe_base.specs.Sizes.{number_at, Within}
 use Rattle.hpe_base.specs.ConvolutionalCode.{selected}
+use Rattle.hpe_base.proofs.Trellis.{stage-suc, chosen_sum-none}
 use Rattle.hpe_lane.specs.OuterStage.{edge_outputs, edge_sum}
-use Rattle.hpe_trellis.proofs.KeptBits.{chosen_none}
 use Rattle.hpe_trellis.specs.OuterTrellis.{put_all}
 use Rattle.hpe_lane.proofs.OuterFits.{kept_z, clean}
 use Rattle.hpe_lane.proofs.Sizes.{zero_within, wider}
@@ -34,7 +34,7 @@ zero_choice false z = omega (arith, ints)
 
 -- with zeros between them they sum to the same
 pub spread-is : (fs : List Bool) (xs : List ℕ) (l : List ℤ) (at : ℕ) → length fs ≡ length xs → at + length (selected fs xs) ≤ length l → chosen_sum (spread fs l at) xs ≡ chosen_sum (drop at l) (selected fs xs)
-spread-is [] [] l at e h = sym (chosen_none (drop at l))
+spread-is [] [] l at e h = sym (chosen_sum-none (drop at l))
 spread-is [] (x ∷ xs) l at e h = absurd (omega arith)
 spread-is (f ∷ fs) [] l at e h = absurd (omega arith)
 spread-is (true ∷ fs) (x ∷ xs) l at e h =
@@ -89,9 +89,6 @@ put-below (f ∷ fs) [] code at j h = refl
 put-below (true ∷ fs) (s ∷ ss) code at j h = let ne : j ≢ at = omega arith in put-below fs ss (set code at s) (at + 1) j (omega arith) ∙ get_or-set_other code at j s (pos 0) ne
 put-below (false ∷ fs) (s ∷ ss) code at j h = put-below fs ss code (at + 0) j (omega arith)
 
-next_index : (at i : ℕ) → at + suc i ≡ at + 1 + i
-next_index at i = omega arith
-
 -- each value stands at its place
 pub put-at : (fs : List Bool) (ss : List ℤ) (ys : List ℕ) (code : List ℤ) (at i : ℕ) → length ss ≡ length ys → i < length (selected fs ys) → at + length (selected fs ys) ≤ length code
     → number_at (put_all fs ss code at) (at + i) ≡ number_at ss (flag_index fs i)
@@ -102,7 +99,7 @@ put-at (f ∷ fs) [] (y ∷ ys) code at i e h r = absurd (omega arith)
 put-at (true ∷ fs) (s ∷ ss) (y ∷ ys) code at zero e h r =
     put-below fs ss (set code at s) (at + 1) (at + 0) (omega arith) ∙ ap (number_at (set code at s)) (add-zero at) ∙ get_or-set_same code at s (pos 0) (omega arith)
 put-at (true ∷ fs) (s ∷ ss) (y ∷ ys) code at (suc i) e h r =
-    ap (number_at (put_all fs ss (set code at s) (at + 1))) (next_index at i)
+    ap (number_at (put_all fs ss (set code at s) (at + 1))) (stage-suc at i)
     ∙ put-at fs ss ys (set code at s) (at + 1) i (omega arith) (omega arith) (omega (arith, length-set {A = ℤ}))
 put-at (false ∷ fs) (s ∷ ss) (y ∷ ys) code at i e h r =
     ap (λ (k : ℕ). number_at (put_all fs ss code k) (at + i)) (add-zero at) ∙ put-at fs ss ys code at i (omega arith) h r

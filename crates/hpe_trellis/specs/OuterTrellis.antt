@@ -7,10 +7,11 @@ use Rattle.hpe_base.specs.GreatestScores.{information_top, code_top}
 use Rattle.hpe_base.specs.SoftValues.{information_soft_value, code_soft_value}
 use Rattle.hpe_base.proofs.Trellis.{Fore, Back}
 use Rattle.hpe_lane.specs.OuterStage.{outer_next, edge_outputs}
+use Rattle.hpe_lane.specs.Windows.{sweep_rows}
 
--- the rows of so many steps: one before each, and one after the last
+-- the rows that the recursions over so many steps need
 abbrev pub outer_rows : ℕ → ℕ
-outer_rows steps = steps + 1
+outer_rows = sweep_rows
 
 -- the puncturing column of step t; the columns serve in turn
 abbrev pub column : List (List Bool) → ℕ → List Bool
@@ -34,9 +35,9 @@ abbrev pub outer_start : ℕ → ℤ
 outer_start zero = pos 0
 outer_start (suc q) = negsuc 499999999
 
--- the rows before step 0 to before step t: at each state, the greatest score of the paths that lead there
-pub record OuterRows (t : ℕ) (columns : List (List Bool)) (l : List ℤ) (rows : List (List ℤ)) : Type 0 where
-  pub top : (s q : ℕ) → s ≤ t → q < 4 → Fore 2 4 (outer_edge columns l) outer_next outer_start s q (number_at (slice_index_or rows s []) q)
+-- the row before step t: at each state, the greatest score of the paths that lead there
+pub record OuterFore (t : ℕ) (columns : List (List Bool)) (l : List ℤ) (row : List ℤ) : Type 0 where
+  pub top : (q : ℕ) → q < 4 → Fore 2 4 (outer_edge columns l) outer_next outer_start t q (number_at row q)
 
 -- the row before step t: at each state, the greatest score of the paths from there on, of so many steps
 pub record OuterBack (t left : ℕ) (columns : List (List Bool)) (l : List ℤ) (row : List ℤ) : Type 0 where

@@ -1,4 +1,4 @@
-// The law of the sizes of outer scores, as the contract of a function that does nothing.
+//! The law of the sizes of outer scores, as the contract of a function that does nothing.
 ghost use Rattle.hpe_trellis.specs.Laws.{OuterScoresAreBounded};
 
 /// With a-priori numbers of at most 16,383 in size for at most 15,120 code bits, every free word's score is within

@@ -1,19 +1,11 @@
-// What the puncturing columns keep, which serve in turn: the places of the outputs of one step among the code bits.
+//! What the puncturing columns keep, which serve in turn: the places of the outputs of one step among the code bits.
 ghost use Rattle.std.specs.Prelude.{◌≡◌, ◌<◌, ◌≤◌, ◌+◌, ◌-◌, ◌%◌, ◌∷◌, [], ℕ, pos, length, drop, true, if◌then◌else◌, slice_set};
 ghost use Rattle.hpe_base.specs.Sizes.{number_at, AllWithin};
-ghost use Rattle.hpe_base.specs.Parameters.{flags_set};
+ghost use Rattle.hpe_base.specs.Parameters.{clamp, flags_set};
 ghost use Rattle.hpe_base.specs.ConvolutionalCode.{selected};
 ghost use Rattle.hpe_base.specs.PathScores.{chosen_sum};
 ghost use Rattle.hpe_lane.specs.OuterStage.{edge_outputs, edge_sum};
 ghost use Rattle.hpe_trellis.specs.OuterTrellis.{put_all};
-
-/// The place after this one in a list that is gone through again and again.
-pub fn place_after(place: usize, length: usize) -> usize
-    requires { place < length }
-    ensures { result ≡ (place + 1) % length }
-{
-    if place + 1 < length { place + 1 } else { 0 }
-}
 
 /// The place before this one.
 pub fn place_before(place: usize, length: usize) -> usize
@@ -21,13 +13,6 @@ pub fn place_before(place: usize, length: usize) -> usize
     ensures { result ≡ (place + (length - 1)) % length }
 {
     if place > 0 { place - 1 } else { length - 1 }
-}
-
-/// How many outputs the column keeps.
-pub fn kept_outputs(column: &[bool; 3]) -> usize
-    ensures { result ≡ flags_set column.now }
-{
-    usize::from(column[0]) + usize::from(column[1]) + usize::from(column[2])
 }
 
 /// The number of place `at`, or 0 for an output that isn't kept.
@@ -43,9 +28,9 @@ fn taken(flag: bool, l: &[i32], at: usize) -> i32
 pub fn step_numbers(column: &[bool; 3], l: &[i32], at: usize) -> [i32; 3]
     requires room { at + flags_set column.now ≤ length l.now }
     requires short { length l.now ≤ 15120 }
-    requires within { AllWithin 16383 l.now }
+    requires within { AllWithin clamp l.now }
     ensures edge { (p x : ℕ) → edge_sum result p x ≡ chosen_sum (drop at l.now) (selected column.now (edge_outputs p x)) }
-    ensures within { AllWithin 16383 result }
+    ensures within { AllWithin clamp result }
 {
     let second = at + usize::from(column[0]);
     let third = second + usize::from(column[1]);

@@ -1,13 +1,11 @@
 -- Where what was sent stands out, its word leads all others of the inner code.
-use Rattle.std.proofs.Common.{◌≡◌, ◌≢◌, ◌+◌, ◌*◌, ◌/◌, ◌^◌, ◌<◌, ◌⊎◌, inl, inr, ⊎_elim, ℕ, zero, suc, ℤ, pos, ◌+ℤ◌, ◌<ℤ◌, List, [], ◌∷◌, length, sum, replicate, Bool, true, false, cond, sym, ◌∙◌, ap, ap₂, subst, refl, arith}
-use Rattle.std.specs.Prelude.{◌==◌, slice_index, slice_range}
-use Rattle.std.proofs.Math.Nat.{mul-div_cancel}
+use Rattle.std.proofs.Common.{◌≡◌, ◌≢◌, ◌+◌, ◌*◌, ◌/◌, ◌<◌, ◌⊎◌, inl, inr, ⊎_elim, ℕ, zero, suc, ℤ, pos, ◌+ℤ◌, ◌<ℤ◌, List, [], ◌∷◌, length, sum, replicate, Bool, true, false, cond, sym, ◌∙◌, ap, ap₂, subst, refl, arith}
+use Rattle.std.specs.Prelude.{◌==◌, slice_index}
 use Rattle.std.proofs.lemmas.Bool.{cases_eq}
 use Rattle.std.proofs.lemmas.Int.{ints}
 use Rattle.std.proofs.lemmas.Grind.{same_number_lists}
-use Rattle.std.proofs.lemmas.List.Elements.{All-take, All-drop}
 use Rattle.hpe_base.specs.Lists.{tabulate}
-use Rattle.hpe_base.specs.Bits.{AreBits, number_of}
+use Rattle.hpe_base.specs.Bits.{AreBits}
 use Rattle.hpe_base.specs.Parameters.{positions, symbol_bits, codeword_symbols, codeword_bits}
 use Rattle.hpe_base.specs.Trellis.{IsPath}
 use Rattle.hpe_base.specs.Accumulator.{accumulated}
@@ -15,15 +13,11 @@ use Rattle.hpe_base.specs.Mapper.{symbols_of}
 use Rattle.hpe_base.specs.PathScores.{chosen_sum, pulse_sum, inner_score}
 use Rattle.hpe_base.specs.declared.profile.Order.{Order}
 use Rattle.hpe_base.specs.declared.profile.Order.TheVariants.{P4, P8, P16, P32, P64, P128, P256}
-use Rattle.hpe_base.proofs.ParameterLemmas.{symbol_bits-pos}
-use Rattle.hpe_base.proofs.Tabulated.{length-tabulate, get_or-tabulate, tabulate-same, sum-tabulate-suc}
-use Rattle.hpe_base.proofs.Numbers.{number_of-lt}
-use Rattle.hpe_base.proofs.Pieces.{length-piece, piece_within}
-use Rattle.hpe_base.proofs.Trellis.{path-length}
-use Rattle.hpe_ppm.proofs.Differences.{length-accumulated, are_bits-accumulated}
+use Rattle.hpe_base.proofs.Tabulated.{length-tabulate, tabulate-same, sum-tabulate-suc}
+use Rattle.hpe_base.proofs.Trellis.{path-length, path_bits}
+use Rattle.hpe_base.proofs.Shapes.{length-accumulated, are_bits-accumulated, symbols_of-lt}
 use Rattle.hpe_ppm.proofs.InnerCode.{inner_code_is_one_to_one}
 use Rattle.hpe_turn.specs.Dominance.{Dominates}
-use Rattle.hpe_turn.proofs.Signs.{path_bits}
 
 cond_zeros : (b : Bool) → cond b (pos 0) (pos 0) ≡ pos 0
 cond_zeros true = refl
@@ -47,18 +41,6 @@ symbols_fill P32 = refl
 symbols_fill P64 = refl
 symbols_fill P128 = refl
 symbols_fill P256 = refl
-
--- each symbol is a pulse position
-symbol_below : (o : Order) (n : ℕ) (bits : List ℕ) → AreBits bits → length bits ≡ n * symbol_bits o → (s : ℕ) → s < length (symbols_of o bits)
-    → slice_index (symbols_of o bits) s < positions o
-symbol_below o n bits h l s b =
-    let m : ℕ = symbol_bits o in
-    let count : length bits / m ≡ n = ap (λ k. k / m) l ∙ mul-div_cancel n (symbol_bits-pos o) in
-    let long : length (symbols_of o bits) ≡ length bits / m = length-tabulate (length bits / m) _ in
-    let group : List ℕ = slice_range bits (s * m) (s * m + m) in
-    let size : length group ≡ m = length-piece bits (s * m) m (omega (arith, l, piece_within n m s (omega arith))) in
-    let small : number_of group < positions o = subst (λ k. number_of group < 2 ^ k) size (number_of-lt group (All-take (λ b. b < 2) _ _ (All-drop (λ b. b < 2) _ bits h))) in
-    subst (λ k. k < positions o) (sym (get_or-tabulate (length bits / m) (λ t. number_of (slice_range bits (t * m) (t * m + m))) s 0 (omega arith))) small
 
 module _ (o : Order) (counts : List ℕ) where
   abbrev pulse : List ℕ → ℕ → ℕ
@@ -112,4 +94,4 @@ module _ (o : Order) (counts : List ℕ) where
       subst (λ k. sum (tabulate k (pulse (symbols x))) < pulse_sum o counts (symbols sent)) (sym same_length) less in
       inr (less_alone _ _ _ _ (chosen_zeros codeword_bits x) (chosen_zeros codeword_bits sent) sums))
       (sums_lead (length (symbols sent)) (symbols x) (symbols sent)
-      (λ s b. symbol_below o n (accumulated x) (are_bits-accumulated x) (length-accumulated x ∙ x_long) s (omega arith)) d)
+      (λ s b. symbols_of-lt o (accumulated x) s (are_bits-accumulated x) (omega arith)) d)

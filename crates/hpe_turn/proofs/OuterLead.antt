@@ -11,15 +11,13 @@ use Rattle.hpe_base.specs.Trellis.{IsPath}
 use Rattle.hpe_base.specs.Termination.{terminated}
 use Rattle.hpe_base.specs.ConvolutionalCode.{code_bits}
 use Rattle.hpe_base.specs.PathScores.{chosen_sum, outer_score}
-use Rattle.hpe_base.specs.Rounds.{information_bits}
-use Rattle.hpe_base.proofs.BitLists.{are_bits-none, are_bits-cons}
+use Rattle.hpe_base.specs.Parameters.{information_bits}
 use Rattle.hpe_base.proofs.KeptLength.{length-code_bits}
-use Rattle.hpe_base.proofs.ParameterLemmas.{code_steps-ge}
-use Rattle.hpe_base.proofs.Trellis.{path-length}
-use Rattle.hpe_code.proofs.CodeBits.{are_bits-code_bits}
+use Rattle.hpe_base.proofs.ParameterLemmas.{code_steps-ge, are_columns}
+use Rattle.hpe_base.proofs.Trellis.{path-length, bits_path, path_bits}
+use Rattle.hpe_base.proofs.Shapes.{are_bits-code_bits, are_bits-two_zeros}
 use Rattle.hpe_code.proofs.OneToOne.{code_is_one_to_one}
-use Rattle.hpe_turn.proofs.Halves.{are_columns}
-use Rattle.hpe_turn.proofs.Signs.{IsSigned, bits_path, path_bits}
+use Rattle.hpe_turn.proofs.Signs.{IsSigned}
 
 up_one : (z x y : ℤ) → pos 1 ≤ℤ z → (x ≡ y) ⊎ (x <ℤ y) → (pos 0 +ℤ x) <ℤ (z +ℤ y)
 up_one z x y h s = ⊎_elim (λ e. omega (arith, ints)) (λ l. omega (arith, ints)) s
@@ -55,10 +53,6 @@ chosen_lead (suc n) (z ∷ lo) (suc (suc b) ∷ k) (c ∷ sent) e h s f = absurd
 chosen_lead (suc n) (z ∷ lo) (zero ∷ k) (suc (suc c) ∷ sent) e h s f = absurd (omega (arith, s.0))
 chosen_lead (suc n) (z ∷ lo) (suc zero ∷ k) (suc (suc c) ∷ sent) e h s f = absurd (omega (arith, s.0))
 
--- the termination is bits
-two_zeros : AreBits (0 ∷ 0 ∷ [])
-two_zeros = are_bits-cons 0 (0 ∷ []) (omega arith) (are_bits-cons 0 [] (omega arith) are_bits-none)
-
 module _ (p : Parameters) (valid : IsValid p) where
   abbrev n : ℕ
   n = information_bits p.rate
@@ -67,7 +61,7 @@ module _ (p : Parameters) (valid : IsValid p) where
   long_terminated u h = omega (arith, path-length 2 n u h, length-append u (0 ∷ 0 ∷ []), code_steps-ge p.rate)
 
   terminated_bits : (u : List ℕ) → IsPath 2 n u → AreBits (terminated u)
-  terminated_bits u h = All-append (λ b. b < 2) u (0 ∷ 0 ∷ []) (path_bits n u h) two_zeros
+  terminated_bits u h = All-append (λ b. b < 2) u (0 ∷ 0 ∷ []) (path_bits n u h) are_bits-two_zeros
 
   pub code_path : (u : List ℕ) → IsPath 2 n u → IsPath 2 codeword_bits (code_bits p.columns (terminated u))
   code_path u h =
@@ -81,7 +75,7 @@ module _ (p : Parameters) (valid : IsValid p) where
   outer_lead lo sent u long path signs h =
       ⊎_elim
       (λ same. inl (append_cancel_right u sent (0 ∷ 0 ∷ [])
-      (code_is_one_to_one p.columns (terminated u) (terminated sent) (are_columns p valid) valid.columns_whole
+      (code_is_one_to_one p.columns (terminated u) (terminated sent) (are_columns p valid) valid.range.columns_whole
       (terminated_bits u h) (terminated_bits sent path) (long_terminated u h ∙ sym (long_terminated sent path)) same)))
       (λ less. inr less)
       (chosen_lead codeword_bits lo (code_bits p.columns (terminated u)) (code_bits p.columns (terminated sent)) long (code_path u h) (code_path sent path) signs)

@@ -1,16 +1,15 @@
 -- Where what was sent stands out, the first round keeps it.
-use Rattle.std.proofs.Common.{◌≡◌, ◌-◌, ◌%◌, ◌^◌, ◌<◌, ℕ, zero, suc, ℤ, pos, ◌-ℤ◌, List, [], ◌++◌, length, take, drop, replicate, true, sym, ◌∙◌, ap, subst, refl, arith, length-append}
+use Rattle.std.proofs.Common.{◌≡◌, ◌-◌, ◌^◌, ◌<◌, ℕ, zero, suc, ℤ, pos, ◌-ℤ◌, List, [], ◌++◌, length, take, drop, replicate, true, sym, ◌∙◌, ap, subst, refl, arith, length-append}
 use Rattle.std.specs.Prelude.{slice_index, ◌==◌}
 use Rattle.std.proofs.Math.Seq.{drop-append_seam}
 use Rattle.std.proofs.lemmas.List.{length-replicate}
 use Rattle.std.proofs.lemmas.List.Elements.{All-append, All-get_or, All-from_get_or}
-use Rattle.std.proofs.lemmas.Nat.{mod_below}
 use Rattle.std.proofs.lemmas.Slice.Eq.{bytes_eq-Decides}
-use Rattle.hpe_base.specs.Bits.{AreBits, bits_of, xor}
+use Rattle.hpe_base.specs.Bits.{AreBits, bits_of}
 use Rattle.hpe_base.specs.Sizes.{number_at}
 use Rattle.hpe_base.specs.Parameters.{Parameters, IsValid, positions, codeword_bits, block_bits}
 use Rattle.hpe_base.specs.Trellis.{IsPath}
-use Rattle.hpe_base.specs.Randomiser.{pseudo_random, randomised}
+use Rattle.hpe_base.specs.Randomiser.{randomised}
 use Rattle.hpe_base.specs.Check.{check_bits}
 use Rattle.hpe_base.specs.Termination.{terminated}
 use Rattle.hpe_base.specs.ConvolutionalCode.{code_bits}
@@ -20,13 +19,15 @@ use Rattle.hpe_base.specs.Mapper.{symbols_of}
 use Rattle.hpe_base.specs.Codeword.{codeword}
 use Rattle.hpe_base.specs.PathScores.{inner_score, outer_score}
 use Rattle.hpe_base.specs.GreatestScores.{top_from, inner_top, information_top}
-use Rattle.hpe_base.specs.SoftValues.{difference, clamped, inner_soft_value, inner_extrinsic, information_soft_value}
-use Rattle.hpe_base.specs.Rounds.{Kept, information_bits, outer_numbers, hard_bit, hard_bits, is_right, verdict_of}
+use Rattle.hpe_base.specs.SoftValues.{difference, clamped, scaled, inner_soft_value, inner_extrinsic, information_soft_value}
+use Rattle.hpe_base.specs.Parameters.{information_bits}
+use Rattle.hpe_base.specs.Rounds.{Kept, outer_numbers, hard_bit, hard_bits, is_right, verdict_of}
 use Rattle.hpe_base.proofs.BitLists.{length-bits_of, are_bits-bits_of}
 use Rattle.hpe_base.proofs.ParameterLemmas.{code_steps-ge}
-use Rattle.hpe_base.proofs.Permutation.{pi-pi_inverse}
+use Rattle.hpe_base.proofs.Permutation.{pi-pi_inverse, pi-lt, pi_inverse-lt}
 use Rattle.hpe_base.proofs.Tabulated.{length-tabulate, get_or-tabulate, tabulate_from_places}
-use Rattle.hpe_base.proofs.Trellis.{path-length}
+use Rattle.hpe_base.proofs.Trellis.{path-length, bits_path, path_bits}
+use Rattle.hpe_base.proofs.Shapes.{are_bits-randomised}
 use Rattle.hpe_block.specs.Division.{divided_by}
 use Rattle.hpe_block.proofs.Division.{divided_by_check}
 use Rattle.hpe_block.proofs.Mixing.{randomised_twice}
@@ -34,7 +35,7 @@ use Rattle.hpe_turn.specs.Dominance.{Dominates}
 use Rattle.hpe_turn.specs.FirstRight.{numbers_at, hard_at}
 use Rattle.hpe_turn.proofs.FirstRight.{first_right}
 use Rattle.hpe_turn.proofs.Halves.{whole_taken}
-use Rattle.hpe_turn.proofs.Signs.{IsSigned, bits_path, path_bits, signed_soft, signed_clamped, signed_hard}
+use Rattle.hpe_turn.proofs.Signs.{IsSigned, signed_soft, signed_clamped, signed_scaled, signed_hard}
 use Rattle.hpe_turn.proofs.InnerLead.{inner_lead}
 use Rattle.hpe_turn.proofs.OuterLead.{code_path, outer_lead}
 
@@ -43,23 +44,14 @@ zeros_at zero j = refl
 zeros_at (suc n) zero = refl
 zeros_at (suc n) (suc j) = zeros_at n j
 
-below : (n : ℕ) → n % codeword_bits < codeword_bits
-below n = mod_below n codeword_bits (omega arith)
-
 path_bit : (n : ℕ) (bits : List ℕ) (i : ℕ) → IsPath 2 n bits → i < n → slice_index bits i < 2
 path_bit n bits i h b = All-get_or (λ b. b < 2) bits i 0 (omega (arith, path-length 2 n bits h)) (path_bits n bits h)
-
-randomised_bits : (p : Parameters) (block : List ℕ) → AreBits (randomised p block)
-randomised_bits p block =
-    let long : length (randomised p block) ≡ length block = length-tabulate (length block) _ in
-    All-from_get_or (λ b. b < 2) (randomised p block) 0
-    (λ k b. subst (λ v. v < 2) (sym (get_or-tabulate (length block) (λ n. xor (slice_index block n) (slice_index (pseudo_random p.taps p.seed (length block)) n)) k 0 (omega arith))) (mod_below _ 2 (omega arith)))
 
 interleaved_path : (code : List ℕ) → IsPath 2 codeword_bits code → IsPath 2 codeword_bits (interleaved code)
 interleaved_path code h =
     let long : length (interleaved code) ≡ codeword_bits = length-tabulate codeword_bits _ in
     let bits : AreBits (interleaved code) = All-from_get_or (λ b. b < 2) (interleaved code) 0
-    (λ k b. subst (λ v. v < 2) (sym (get_or-tabulate codeword_bits (λ j. slice_index code (pi j)) k 0 (omega arith))) (path_bit codeword_bits code (pi k) h (below _))) in
+    (λ k b. subst (λ v. v < 2) (sym (get_or-tabulate codeword_bits (λ j. slice_index code (pi j)) k 0 (omega arith))) (path_bit codeword_bits code (pi k) h (pi-lt k))) in
     subst (λ n. IsPath 2 n (interleaved code)) long (bits_path (interleaved code) bits)
 
 module _ (p : Parameters) (valid : IsValid p) (block counts : List ℕ) (bits : AreBits block) (long : length block ≡ block_bits p.rate)
@@ -86,14 +78,14 @@ module _ (p : Parameters) (valid : IsValid p) (block counts : List ℕ) (bits : 
   remainder = divided_by p.check (2 ^ 32 - 1) mixed
 
   check_is : bits_of 32 remainder ≡ check
-  check_is = divided_by_check p.check mixed valid.check_high (randomised_bits p block)
+  check_is = divided_by_check p.check mixed valid.range.check_high (are_bits-randomised p block)
 
   sent_path : IsPath 2 (information_bits p.rate) sent
   sent_path =
       let check_bits : AreBits check = subst AreBits check_is (are_bits-bits_of 32 remainder) in
       let long_check : length check ≡ 32 = ap length (sym check_is) ∙ length-bits_of 32 remainder in
       let whole : length sent ≡ information_bits p.rate = omega (arith, length-append mixed check, long_mixed, long_check, code_steps-ge p.rate) in
-      subst (λ n. IsPath 2 n sent) whole (bits_path sent (All-append (λ b. b < 2) mixed check (randomised_bits p block) check_bits))
+      subst (λ n. IsPath 2 n sent) whole (bits_path sent (All-append (λ b. b < 2) mixed check (are_bits-randomised p block) check_bits))
 
   woven_path : IsPath 2 codeword_bits (interleaved code)
   woven_path = interleaved_path code (code_path p valid sent sent_path)
@@ -111,11 +103,12 @@ module _ (p : Parameters) (valid : IsValid p) (block counts : List ℕ) (bits : 
       (sym (length-replicate codeword_bits (pos 0)))
       (signed_soft codeword_bits j score (interleaved code) h woven_path (λ x k. inner_lead p.order counts (interleaved code) x woven_path d k))
 
-  extrinsic_signed : (j : ℕ) → j < codeword_bits → IsSigned (slice_index (interleaved code) j) (inner_extrinsic p.order counts zeros j)
+  extrinsic_signed : (j : ℕ) → j < codeword_bits → IsSigned (slice_index (interleaved code) j) (inner_extrinsic p counts zeros j)
   unfolding inner_extrinsic
   extrinsic_signed j h =
-      subst (λ (z : ℤ). IsSigned (slice_index (interleaved code) j) (clamped (inner_soft_value p.order counts zeros j -ℤ z))) (sym (zeros_at codeword_bits j))
-      (signed_clamped (slice_index (interleaved code) j) (inner_soft_value p.order counts zeros j) (inner_signed j h))
+      subst (λ (z : ℤ). IsSigned (slice_index (interleaved code) j) (scaled p.scale (clamped (inner_soft_value p.order counts zeros j -ℤ z)))) (sym (zeros_at codeword_bits j))
+      (signed_scaled p.scale (slice_index (interleaved code) j) (clamped (inner_soft_value p.order counts zeros j -ℤ pos 0)) valid.range.scale_low
+      (signed_clamped (slice_index (interleaved code) j) (inner_soft_value p.order counts zeros j) (inner_signed j h)))
 
   -- what the outer code is given has the sign of each code bit
   numbers_signed : (i : ℕ) → i < codeword_bits → IsSigned (slice_index code i) (number_at (outer_numbers p counts zeros) i)
@@ -123,9 +116,9 @@ module _ (p : Parameters) (valid : IsValid p) (block counts : List ℕ) (bits : 
   numbers_signed i h =
       let e : ℕ = pi_inverse i in
       let bit : slice_index (interleaved code) e ≡ slice_index code i =
-      get_or-tabulate codeword_bits (λ j. slice_index code (pi j)) e 0 (below _) ∙ ap (λ k. slice_index code k) (pi-pi_inverse i h) in
-      subst (IsSigned (slice_index code i)) (sym (get_or-tabulate codeword_bits (λ k. inner_extrinsic p.order counts zeros (pi_inverse k)) i (pos 0) h))
-      (subst (λ (b : ℕ). IsSigned b (inner_extrinsic p.order counts zeros e)) bit (extrinsic_signed e (below _)))
+      get_or-tabulate codeword_bits (λ j. slice_index code (pi j)) e 0 (pi_inverse-lt i) ∙ ap (λ k. slice_index code k) (pi-pi_inverse i h) in
+      subst (IsSigned (slice_index code i)) (sym (get_or-tabulate codeword_bits (λ k. inner_extrinsic p counts zeros (pi_inverse k)) i (pos 0) h))
+      (subst (λ (b : ℕ). IsSigned b (inner_extrinsic p counts zeros e)) bit (extrinsic_signed e (pi_inverse-lt i)))
 
   long_numbers : length (outer_numbers p counts zeros) ≡ codeword_bits
   unfolding outer_numbers
@@ -158,7 +151,7 @@ module _ (p : Parameters) (valid : IsValid p) (block counts : List ℕ) (bits : 
 
   -- the first round keeps the block
   pub sent_is_kept : verdict_of p counts ≡ Kept 1 block
-  sent_is_kept = first_right p counts 1 block (omega arith) valid.rounds_low (record {
+  sent_is_kept = first_right p counts 1 block (omega arith) valid.range.rounds_low (record {
     right = ap (is_right p) first_is ∙ sent_right;
     block_is = sym (ap (λ (hard : List ℕ). randomised p (take (block_bits p.rate) hard)) first_is ∙ ap (randomised p) front_is ∙ randomised_twice p block bits);
     first = λ s low high. absurd (omega arith);

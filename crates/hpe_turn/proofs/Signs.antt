@@ -1,37 +1,23 @@
 -- The sign of a soft value, where one word leads all others.
-use Rattle.std.proofs.Common.{◌≡◌, ◌<◌, ◌⊎◌, ⊎_elim, ℕ, zero, suc, ℤ, pos, negsuc, ◌-ℤ◌, ◌≤ℤ◌, ◌<ℤ◌, List, [], ◌∷◌, true, Option, Some, None, length, replicate, sym, ap, ap₂, subst, refl, arith, eq-eqb}
+use Rattle.std.proofs.Common.{◌≡◌, ◌<◌, ◌≤◌, ◌⊎◌, ⊎_elim, ℕ, zero, suc, ℤ, pos, negsuc, ◌-ℤ◌, ◌≤ℤ◌, ◌<ℤ◌, List, [], true, Option, Some, None, replicate, sym, ap, ap₂, subst, refl, arith, eq-eqb}
 use Rattle.std.specs.Prelude.{◌==◌, slice_index}
 use Rattle.std.proofs.lemmas.Bool.{eqb-true}
 use Rattle.std.proofs.lemmas.Int.{ints, clamps}
 use Rattle.std.proofs.lemmas.List.{get_or-replicate}
-use Rattle.hpe_base.specs.Bits.{AreBits}
 use Rattle.hpe_base.specs.Greatest.{IsGreatest}
 use Rattle.hpe_base.specs.Trellis.{IsPath}
 use Rattle.hpe_base.specs.GreatestScores.{top_from, IsTop}
-use Rattle.hpe_base.specs.SoftValues.{difference, clamped}
+use Rattle.hpe_base.specs.SoftValues.{difference, clamped, scaled}
+use Rattle.hpe_base.proofs.Scaling.{eighths-pos}
 use Rattle.hpe_base.specs.Rounds.{hard_bit}
 use Rattle.hpe_base.proofs.Greatest.{IsGreatest-widen}
 use Rattle.hpe_base.proofs.GreatestScores.{top-whole}
-use Rattle.hpe_base.proofs.BitLists.{are_bits-none, are_bits-cons, are_bits-tail}
+use Rattle.hpe_base.proofs.Trellis.{replicate-path}
 
 -- the value is above 0 where the bit is 1, and below 0 where it is 0
 pub record IsSigned (bit : ℕ) (value : ℤ) : Type 0 where
   pub one : bit ≡ 1 → pos 1 ≤ℤ value
   pub zero : bit ≡ 0 → value ≤ℤ negsuc 0
-
--- ---- words of bits as paths
-pub bits_path : (bits : List ℕ) → AreBits bits → IsPath 2 (length bits) bits
-bits_path [] h = tt
-bits_path (b ∷ bits) h = (h 0 0 (omega arith), bits_path bits (are_bits-tail b bits h))
-
-pub path_bits : (n : ℕ) (bits : List ℕ) → IsPath 2 n bits → AreBits bits
-path_bits n [] h = are_bits-none
-path_bits zero (b ∷ bits) h = absurd h
-path_bits (suc n) (b ∷ bits) h = are_bits-cons b bits h.0 (path_bits n bits h.1)
-
-repeated_path : (n b : ℕ) → b < 2 → IsPath 2 n (replicate n b)
-repeated_path zero b h = tt
-repeated_path (suc n) b h = (h, repeated_path n b h)
 
 -- ---- the soft value of one bit of words
 reaches : (hi lo x y : ℤ) → x ≤ℤ hi → y ≡ lo → y <ℤ x → pos 1 ≤ℤ (hi -ℤ lo)
@@ -59,7 +45,7 @@ module _ (n j : ℕ) (score : List ℕ → ℤ) (sent : List ℕ) (below : j < n
   top_with : (b : ℕ) → b < 2 → (z : ℤ) × ((top b ≡ Some z) × IsGreatest (λ (x : List ℕ). IsPath 2 n x × (bit x ≡ b)) score z)
   top_with b h =
       let t = some_top (λ (x : List ℕ). IsPath 2 n x × ((bit x == b) ≡ true)) score (top b) (top-whole (λ x. bit x == b) score n)
-      (replicate n b) (repeated_path n b h, eq-eqb (bit (replicate n b)) b (get_or-replicate n j b 0 below)) in
+      (replicate n b) (replicate-path 2 n b h, eq-eqb (bit (replicate n b)) b (get_or-replicate n j b 0 below)) in
       (t.0, (t.1.0, IsGreatest-widen (λ x k. (k.0, eqb-true (bit x) b k.1)) (λ x k. (k.0, eq-eqb (bit x) b k.1)) t.1.1))
 
   signed_difference : (hi lo : ℤ) → IsGreatest (λ (x : List ℕ). IsPath 2 n x × (bit x ≡ 1)) score hi
@@ -87,6 +73,20 @@ pub signed_clamped : (bit : ℕ) (v : ℤ) → IsSigned bit v → IsSigned bit (
 signed_clamped bit v s = record {
   one = λ e. let h = s.one e in omega (arith, ints, clamps);
   zero = λ e. let h = s.zero e in omega (arith, ints, clamps);
+}
+
+pub signed_scaled : (s bit : ℕ) (v : ℤ) → 1 ≤ s → IsSigned bit v → IsSigned bit (scaled s v)
+signed_scaled s bit (pos zero) low h = record {
+  one = λ e. let w = h.one e in absurd (omega (arith, ints));
+  zero = λ e. let w = h.zero e in absurd (omega (arith, ints));
+}
+signed_scaled s bit (pos (suc n)) low h = record {
+  one = λ e. let some = eighths-pos (suc n) s low (omega arith) in omega (arith, ints);
+  zero = λ e. let w = h.zero e in absurd (omega (arith, ints));
+}
+signed_scaled s bit (negsuc n) low h = record {
+  one = λ e. let w = h.one e in absurd (omega (arith, ints));
+  zero = λ e. let some = eighths-pos (suc n) s low (omega arith) in omega (arith, ints);
 }
 
 pub signed_hard : (b : ℕ) (v : ℤ) → b < 2 → IsSigned b v → hard_bit v ≡ b

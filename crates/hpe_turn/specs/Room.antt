@@ -1,7 +1,7 @@
 -- The lengths of the lists that the rounds work on.
 use Rattle.std.specs.Prelude.{◌≡◌, ℕ, List, ℤ, length}
 use Rattle.hpe_base.specs.Parameters.{Parameters, codeword_symbols, codeword_bits, code_steps}
-use Rattle.hpe_base.specs.Rounds.{information_bits}
+use Rattle.hpe_base.specs.Parameters.{information_bits}
 use Rattle.hpe_inner.specs.Lengths as inner
 use Rattle.hpe_trellis.specs.OuterTrellis as outer
 

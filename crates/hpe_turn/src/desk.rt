@@ -1,7 +1,7 @@
-// The decoder of one word.
+//! The decoder of one word.
 ghost use Rattle.std.specs.Prelude.{◌≡◌, ◌≤◌, ◌+◌, ◌*◌, ◌^◌, ℕ, List, All, length, IfOk};
 ghost use Rattle.hpe_base.specs.Bits.{AreBits};
-ghost use Rattle.hpe_base.specs.Parameters.{codeword_symbols, positions, code_steps, block_bits};
+ghost use Rattle.hpe_base.specs.Parameters.{clamp, codeword_symbols, positions, code_steps, block_bits};
 ghost use Rattle.hpe_base.specs.Codeword.{codeword};
 ghost use Rattle.hpe_base.specs.Rounds.{Kept, Lost, verdict_of};
 ghost use Rattle.hpe_turn.specs.Dominance.{Dominates};
@@ -51,7 +51,7 @@ impl Desk {
         steps: &mut Steps<L>,
     ) -> Verdict
         requires counts { length counts.now ≡ codeword_symbols self.old.order * positions self.old.order }
-        requires most { All (λ c. c ≤ 16383) counts.now }
+        requires most { All (λ c. c ≤ clamp) counts.now }
         requires block { length block.old ≡ block_bits self.old.rate }
         requires room { steps.old + self.old.rounds * (3 * (codeword_symbols self.old.order + code_steps self.old.rate)) ≤ 2 ^ 60 }
         ensures profile { self.new ≡ self.old }

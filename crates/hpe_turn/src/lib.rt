@@ -10,5 +10,5 @@ mod tests;
 mod verdict;
 
 pub use desk::Desk;
-pub use extrinsic::cut;
+pub use extrinsic::{cut, scaled};
 pub use verdict::Verdict;

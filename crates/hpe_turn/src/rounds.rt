@@ -1,10 +1,10 @@
-// The rounds on a word.
+//! The rounds on a word.
 ghost use Rattle.std.specs.Prelude.{◌≡◌, ◌<◌, ◌≤◌, ◌+◌, ◌*◌, ◌^◌, ℕ, All, length, pos, replicate, IfOk};
 ghost use Rattle.hpe_base.specs.Bits.{AreBits};
 ghost use Rattle.hpe_base.specs.Sizes.{number_at, AllWithin};
-ghost use Rattle.hpe_base.specs.Parameters.{IsValid, codeword_bits, codeword_symbols, positions, code_steps, block_bits};
+ghost use Rattle.hpe_base.specs.Parameters.{clamp, IsValid, information_bits, codeword_bits, codeword_symbols, positions, code_steps, block_bits};
 ghost use Rattle.hpe_base.specs.SoftValues.{code_soft_value};
-ghost use Rattle.hpe_base.specs.Rounds.{Kept, Lost, information_bits, outer_numbers, hard_bits, next_numbers, verdict_of};
+ghost use Rattle.hpe_base.specs.Rounds.{Kept, Lost, outer_numbers, hard_bits, next_numbers, verdict_of};
 ghost use Rattle.hpe_turn.specs.Room.{HasRoom};
 ghost use Rattle.hpe_turn.specs.FirstRight.{IsFirstRight};
 
@@ -17,9 +17,6 @@ use hpe_inner::{inner_rows, inner_soft};
 use hpe_trellis::{outer_rows, outer_soft};
 use std::alloc::Global;
 use std::sync::ledger::Ledger;
-
-/// The zero bits that end the convolutional code.
-const TERMINATION_BITS: usize = 2;
 
 /// A list of so many zeros or rows of zeros.
 fn zeros<T: Copy + Default>(alloc: Global, n: usize) -> Result<Vec<T>, NoMemory>
@@ -56,7 +53,7 @@ impl Rounds {
     pub(crate) fn new(alloc: Global, p: &Profile) -> Result<Rounds, NoMemory>
         ensures { IfOk result (λ r. r.profile ≡ p.now) }
     {
-        let information = p.rate().steps() - TERMINATION_BITS;
+        let information = p.rate().information();
         Ok(Rounds {
             profile: p.copy(),
             tables: CodeTables::new(alloc)?,
@@ -83,12 +80,12 @@ impl Rounds {
     /// The first half of a round: what the inner code gives to the outer one.
     fn inner_half<L: Ledger>(&mut self, counts: &[u16], steps: &mut Steps<L>)
         requires counts { length counts.now ≡ codeword_symbols self.old.profile.order * positions self.old.profile.order }
-        requires most { All (λ c. c ≤ 16383) counts.now }
-        requires small { AllWithin 16383 self.old.inner_numbers.items }
+        requires most { All (λ c. c ≤ clamp) counts.now }
+        requires small { AllWithin clamp self.old.inner_numbers.items }
         requires room { steps.old + 3 * codeword_symbols self.old.profile.order ≤ 2 ^ 60 }
         ensures profile { self.new.profile ≡ self.old.profile }
         ensures numbers { self.new.outer_numbers.items ≡ outer_numbers self.old.profile counts.now self.old.inner_numbers.items }
-        ensures small { AllWithin 16383 self.new.outer_numbers.items }
+        ensures small { AllWithin clamp self.new.outer_numbers.items }
         ensures cost { steps.new ≤ steps.old + 3 * codeword_symbols self.old.profile.order }
     {
         inner_soft(
@@ -99,14 +96,15 @@ impl Rounds {
             &mut self.soft,
             steps,
         );
-        extrinsic(&self.soft, &self.inner_numbers, &mut self.extrinsic);
+        let scale = self.profile.scale();
+        extrinsic(scale, &self.soft, &self.inner_numbers, &mut self.extrinsic);
         self.tables.deinterleave(&self.extrinsic, &mut self.moved);
         widen(&self.moved, &mut self.outer_numbers);
     }
 
     /// The second half of a round: what the outer code decides.
     fn outer_half<L: Ledger>(&mut self, steps: &mut Steps<L>)
-        requires small { AllWithin 16383 self.old.outer_numbers.items }
+        requires small { AllWithin clamp self.old.outer_numbers.items }
         requires room { steps.old + 3 * code_steps self.old.profile.rate ≤ 2 ^ 60 }
         ensures profile { self.new.profile ≡ self.old.profile }
         ensures numbers { self.new.outer_numbers.items ≡ self.old.outer_numbers.items }
@@ -131,9 +129,10 @@ impl Rounds {
         requires soft { (i : ℕ) → i < codeword_bits → number_at self.old.soft.items i ≡ code_soft_value self.old.profile.columns self.old.outer_numbers.items (information_bits self.old.profile.rate) i }
         ensures profile { self.new.profile ≡ self.old.profile }
         ensures numbers { self.new.inner_numbers.items ≡ next_numbers self.old.profile self.old.outer_numbers.items }
-        ensures small { AllWithin 16383 self.new.inner_numbers.items }
+        ensures small { AllWithin clamp self.new.inner_numbers.items }
     {
-        extrinsic(&self.soft, &self.outer_numbers, &mut self.extrinsic);
+        let scale = self.profile.scale();
+        extrinsic(scale, &self.soft, &self.outer_numbers, &mut self.extrinsic);
         self.tables.interleave(&self.extrinsic, &mut self.moved);
         widen(&self.moved, &mut self.inner_numbers);
     }
@@ -146,7 +145,7 @@ impl Rounds {
         steps: &mut Steps<L>,
     ) -> Verdict
         requires counts { length counts.now ≡ codeword_symbols self.old.profile.order * positions self.old.profile.order }
-        requires most { All (λ c. c ≤ 16383) counts.now }
+        requires most { All (λ c. c ≤ clamp) counts.now }
         requires block { length block.old ≡ block_bits self.old.profile.rate }
         requires room { steps.old + self.old.profile.rounds * (3 * (codeword_symbols self.old.profile.order + code_steps self.old.profile.rate)) ≤ 2 ^ 60 }
         ensures profile { self.new.profile ≡ self.old.profile }

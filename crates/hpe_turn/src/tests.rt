@@ -1,6 +1,6 @@
 ghost use Rattle.std.specs.Prelude.{◌≡◌, ◌<◌};
 
-use crate::{Desk, Verdict, cut};
+use crate::{Desk, Verdict, cut, scaled};
 use hpe_base::{Fields, Profile, Steps};
 use hpe_code::CodeTables;
 use hpe_word::encode_word;
@@ -87,6 +87,20 @@ fn clamped_numbers(rt: HostRuntime) {
 }
 
 #[test]
+fn scaled_numbers(rt: HostRuntime) {
+    for (number, scale, eighths) in [
+        (0, 3, 0),
+        (1, 1, 1),
+        (-1, 1, -1),
+        (-9, 4, -5),
+        (16_383, 6, 12_288),
+        (16_383, 8, 16_383),
+    ] {
+        assert_eq!(rt; scaled(number, scale), eighths);
+    }
+}
+
+#[test]
 fn clean_then_dark(rt: HostRuntime) -> Result<(), Fail> {
     let p = Profile::basic();
     let mut desk = Desk::new(rt.alloc(), &p)?;
@@ -113,19 +127,24 @@ fn clean_then_dark(rt: HostRuntime) -> Result<(), Fail> {
 
 #[test]
 fn kept_in_the_second_round(rt: HostRuntime) -> Result<(), Fail> {
-    let p = Profile::basic();
-    let mut desk = Desk::new(rt.alloc(), &p)?;
-    let mut sent = Vec::from_slice(rt.alloc(), &FRAME_MARKER)?;
-    sent.resize(p.rate().block(), 0)?;
-    let symbols = encoded(&rt, rt.alloc(), &p, &sent)?;
-    let dark = [570, 799, 1_415, 2_064, 2_446, 2_975, 3_419, 3_610];
-    let counts = received(rt.alloc(), &p, &symbols, &dark)?;
-    let mut block = vec![in rt.alloc(); 7; p.rate().block()]?;
-    let first = decoded(&rt, &p, &mut desk, &counts, &mut block);
-    assert!(rt; first == Verdict::Kept { round: 2 } && block.as_slice() == sent.as_slice());
-    block.fill(7);
-    let again = decoded(&rt, &p, &mut desk, &counts, &mut block);
-    assert!(rt; again == Verdict::Kept { round: 2 } && block.as_slice() == sent.as_slice());
+    for scale in [8, 6, 1] {
+        let p = Profile::new(&Fields {
+            scale,
+            ..Fields::basic()
+        })?;
+        let mut desk = Desk::new(rt.alloc(), &p)?;
+        let mut sent = Vec::from_slice(rt.alloc(), &FRAME_MARKER)?;
+        sent.resize(p.rate().block(), 0)?;
+        let symbols = encoded(&rt, rt.alloc(), &p, &sent)?;
+        let dark = [570, 799, 1_415, 2_064, 2_446, 2_975, 3_419, 3_610];
+        let counts = received(rt.alloc(), &p, &symbols, &dark)?;
+        let mut block = vec![in rt.alloc(); 7; p.rate().block()]?;
+        let first = decoded(&rt, &p, &mut desk, &counts, &mut block);
+        assert!(rt; first == Verdict::Kept { round: 2 } && block.as_slice() == sent.as_slice());
+        block.fill(7);
+        let again = decoded(&rt, &p, &mut desk, &counts, &mut block);
+        assert!(rt; again == Verdict::Kept { round: 2 } && block.as_slice() == sent.as_slice());
+    }
     Ok(())
 }
 
@@ -155,18 +174,10 @@ fn each_order<R: Abort>(rt: &R, alloc: Global, rate: &str, columns: &str) -> Res
         let p = Profile::new(&Fields {
             order,
             rate,
-            frame_octets: 100,
-            frame_marker: 449_838_109,
-            taps: 169,
-            seed: 255,
-            check: 537_149_449,
             columns,
-            rows: 1,
-            delay: 1,
             marker: &[3],
-            repeat: 1,
             rounds: 2,
-            search: 1,
+            ..Fields::basic()
         })?;
         let mut desk = Desk::new(alloc, &p)?;
         sent_clean(rt, alloc, &p, &mut desk, 0)?;

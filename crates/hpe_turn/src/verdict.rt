@@ -1,3 +1,5 @@
+//! What becomes of a word.
+
 /// What became of a word.
 #[derive(Clone, Copy, Debug, PartialEq, Eq)]
 pub enum Verdict {

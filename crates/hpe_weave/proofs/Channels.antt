@@ -1,13 +1,12 @@
 -- The channel interleaver and its inverse after one push more.
-use Rattle.std.proofs.Common.{◌≡◌, ◌<◌, ◌≤◌, ◌+◌, ◌-◌, ◌*◌, ℕ, List, [], ◌∷◌, ◌++◌, length, get_or, ap, ◌∙◌, arith, ◌%◌}
-use Rattle.std.proofs.Math.Nat.{mul_comm}
+use Rattle.std.proofs.Common.{◌≡◌, ◌<◌, ◌≤◌, ◌+◌, ◌-◌, ℕ, List, [], ◌∷◌, ◌++◌, length, get_or, ap, ◌∙◌, arith}
 use Rattle.std.proofs.lemmas.List.{length_push, get_or_append_left}
-use Rattle.std.proofs.lemmas.Nat.{mul-le, mod_below}
 use Rattle.hpe_base.specs.Lists.{tabulate}
 use Rattle.hpe_base.specs.Parameters.{Parameters, interleaver_depth}
 use Rattle.hpe_base.specs.ChannelInterleaver.{deinterleaved_channel, delay_at, channel_at, interleaved_channel}
 use Rattle.hpe_base.proofs.Channels.{channel_at-front}
 use Rattle.hpe_base.proofs.Tabulated.{length-tabulate, tabulate-more, tabulate-same, tabulate_from_places, get_or-tabulate, tabulate-none}
+use Rattle.hpe_base.proofs.ParameterLemmas.{delay_at-le}
 
 -- one symbol more
 pub channel_more : (p : Parameters) (xs : List ℕ) (x : ℕ) → interleaved_channel p (xs ++ x ∷ []) ≡ interleaved_channel p xs ++ channel_at p (xs ++ x ∷ []) (length xs) ∷ []
@@ -16,18 +15,6 @@ channel_more p xs x =
     ap (λ (n : ℕ). tabulate n (channel_at p (xs ++ x ∷ []))) (length_push xs x)
     ∙ tabulate-more (length xs) (channel_at p (xs ++ x ∷ []))
     ∙ ap (λ (l : List ℕ). l ++ channel_at p (xs ++ x ∷ []) (length xs) ∷ []) (tabulate-same (length xs) (channel_at p (xs ++ x ∷ [])) (channel_at p xs) (λ k b. channel_at-front p xs (x ∷ []) k b))
-
--- no row is delayed by more than the last
-depth-le : (rows delay r : ℕ) → r < rows → r * rows * delay ≤ rows * (rows - 1) * delay
-depth-le rows delay r h =
-    let a : r * rows ≤ (rows - 1) * rows = mul-le r rows (rows - 1) rows (omega arith) (omega arith) in
-    let b : r * rows * delay ≤ (rows - 1) * rows * delay = mul-le (r * rows) delay ((rows - 1) * rows) delay a (omega arith) in
-    let e : (rows - 1) * rows ≡ rows * (rows - 1) = mul_comm (rows - 1) rows in
-    rw (← e) b
-
--- a row takes nothing from past the depth
-pub delay_at-le : (p : Parameters) (v : ℕ) → 0 < p.rows → delay_at p v ≤ interleaver_depth p
-delay_at-le p v pos = depth-le p.rows p.delay (v % p.rows) (mod_below v p.rows pos)
 
 -- row v in the order of the codewords
 abbrev pub row_at : Parameters → List (List ℕ) → ℕ → List ℕ

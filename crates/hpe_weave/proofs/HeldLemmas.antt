@@ -5,12 +5,13 @@ use Rattle.std.proofs.lemmas.Nat.{mul-le}
 use Rattle.std.proofs.lemmas.List.{length-drop, take_all}
 use Rattle.std.proofs.lemmas.List.Sums.{sum_by_more}
 use Rattle.circular_buffer.specs.Buffer.{Buffer, buffer}
+use Rattle.std.proofs.Math.Nat.{zero-mul}
 use Rattle.hpe_base.specs.Lists.{tabulate}
 use Rattle.hpe_base.specs.Parameters.{Parameters, positions, interleaver_depth}
 use Rattle.hpe_base.proofs.Tabulated.{tabulate-none, sum-tabulate-suc}
 use Rattle.hpe_weave.specs.Turns.{turns, joined_on_row}
 use Rattle.hpe_weave.specs.Unweaving.{held_turns, gathered, held_after}
-use Rattle.hpe_weave.proofs.UnweaverLemmas.{length-on, whole, none}
+use Rattle.hpe_weave.proofs.UnweaverLemmas.{length-on, whole}
 
 -- the last of so many rows, in numbers of m a row
 times-min : (m a b : ℕ) → a * m - (a * m - b * m) ≡ m * min b a
@@ -116,7 +117,7 @@ module _ (p : Parameters) (g : List (List ℕ)) (rs : List (Buffer ℕ)) (all : 
       let m = length rs in
       let rows : suc m ≡ p.rows = omega arith in
       let left : p.rows - 1 - m ≡ 0 = omega arith in
-      let turned : held_turns p m ≡ 0 = ap (λ (k : ℕ). k * p.delay) left ∙ none p.delay in
+      let turned : held_turns p m ≡ 0 = ap (λ (k : ℕ). k * p.delay) left ∙ zero-mul p.delay in
       let last : f m ≡ 0 = omega arith in
       let end : sum (tabulate m f) + f m ≡ sum (tabulate m f) = omega arith in
       e

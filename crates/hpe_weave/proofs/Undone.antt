@@ -11,9 +11,8 @@ use Rattle.std.specs.Int.{div_ceil}
 use Rattle.hpe_base.specs.Slots.{flush_words}
 use Rattle.hpe_base.proofs.Tabulated.{tabulate_from_places, get_or-tabulate}
 use Rattle.hpe_base.proofs.Channels.{length-interleaved_channel}
-use Rattle.hpe_base.proofs.ParameterLemmas.{codeword_symbols-ge}
+use Rattle.hpe_base.proofs.ParameterLemmas.{codeword_symbols-ge, delay_at-le}
 use Rattle.hpe_weave.specs.Laws.{returned, ComesBack, ChannelInterleaverIsUndone}
-use Rattle.hpe_weave.proofs.Channels.{delay_at-le}
 use Rattle.hpe_weave.proofs.TurnLemmas.{next-row}
 use Rattle.hpe_weave.proofs.UnweaverLemmas.{same-row}
 use Rattle.hpe_base.proofs.BitLists.{length-zeros}
@@ -84,4 +83,4 @@ comes_back p d s pos some =
 
 -- the law
 pub channel_interleaver_is_undone : ChannelInterleaverIsUndone
-channel_interleaver_is_undone p d s valid = comes_back p d s valid.rows_low (omega (arith, codeword_symbols-ge p.order))
+channel_interleaver_is_undone p d s valid = comes_back p d s valid.range.rows_low (omega (arith, codeword_symbols-ge p.order))

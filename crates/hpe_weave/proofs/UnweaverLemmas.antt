@@ -5,6 +5,7 @@ use Rattle.std.proofs.lemmas.Nat.{mul-le, mod_below, div-add-mod', mod-mul-add}
 use Rattle.std.proofs.lemmas.List.{append-nil, get_or_push, get_or-set_same, get_or-set_other, length-set, length-drop, length_push, get_or_append_left, drop-append-le, drop-drop, take-append-le, drop_all, drop_at, take_all}
 use Rattle.std.proofs.lemmas.List.Elements.{All-append}
 use Rattle.circular_buffer.specs.Buffer.{Buffer, keep_last}
+use Rattle.std.proofs.Math.Nat.{zero-mul}
 use Rattle.hpe_base.specs.Lists.{joined}
 use Rattle.hpe_base.specs.Parameters.{Parameters, IsValid, positions, interleaver_depth}
 use Rattle.hpe_base.specs.ChannelInterleaver.{delay_at, deinterleaved_channel}
@@ -157,10 +158,6 @@ front_row p g x i h low e deep all =
     ∙ part-joined n m k f (λ j b. all (j * p.rows + i) [] (turn_below p.rows (length g) i j (omega arith) b)) (omega arith)
     ∙ sym (s.at ∙ get_or_append_left g (x ∷ []) [] (k * p.rows + i) below)
 
--- a row with no delay
-pub none : (n : ℕ) → 0 * n ≡ 0
-none n = omega arith
-
 -- the last row has no ring
 pub last_row : (p : Parameters) (g : List (List ℕ)) (x : List ℕ) (i : ℕ) → i + 1 ≡ p.rows → length g % p.rows ≡ i → interleaver_depth p ≤ length g
     → x ≡ row_at p (g ++ x ∷ []) (length g - interleaver_depth p)
@@ -168,7 +165,7 @@ last_row p g x i h e deep =
     let n = turns p.rows (length g) i in
     let s : IsSource p g x i = source p g x i (omega arith) e deep in
     let z : p.rows - 1 - i ≡ 0 = omega arith in
-    let c : held_turns p i ≡ 0 = ap (λ (k : ℕ). k * p.delay) z ∙ none p.delay in
+    let c : held_turns p i ≡ 0 = ap (λ (k : ℕ). k * p.delay) z ∙ zero-mul p.delay in
     let place : n * p.rows + i ≡ length g = rw (← e) (turns-now p.rows (length g) (omega arith)) in
     let k : n - held_turns p i ≡ n = omega arith in
     sym (s.at ∙ ap (λ (j : ℕ). get_or (g ++ x ∷ []) (j * p.rows + i) []) k ∙ get_or_push g x [] (n * p.rows + i) (sym place))
@@ -345,11 +342,11 @@ made_empty_more p row rs b m items capacity =
 -- all rings make an unweaver
 pub made_unweaving : (p : Parameters) (rs : List (Buffer ℕ)) (wait : ℕ) → IsValid p → AreMadeEmpty p p.rows rs → IsUnweaving (record { parameters = p; rings = rs; turn = 0; wait = wait })
 made_unweaving p rs wait valid m = record {
-  rows_low = valid.rows_low;
-  rows_high = valid.rows_high;
-  delay_low = valid.delay_low;
+  rows_low = valid.range.rows_low;
+  rows_high = valid.range.rows_high;
+  delay_low = valid.range.delay_low;
   depth = valid.depth;
-  turn_in = (let low : 1 ≤ p.rows = valid.rows_low in omega arith);
+  turn_in = (let low : 1 ≤ p.rows = valid.range.rows_low in omega arith);
   count = m.count;
   capacity = m.capacity;
 }

@@ -3,12 +3,12 @@ use Rattle.std.proofs.Common.{◌≡◌, ◌≢◌, ◌<◌, ◌≤◌, ◌+◌,
 use Rattle.std.proofs.Math.Nat.{mod-add-mod}
 use Rattle.std.proofs.lemmas.Bool.{cases_eq, cases_lt, le-leb, lt-leb, cond-true, cond-false}
 use Rattle.std.proofs.lemmas.Nat.{mul-le}
-use Rattle.std.proofs.lemmas.List.{nil_from_length, append-nil, get_or_push, get_or-set_same, get_or-set_other, length-drop, length_push, get_or_append_left, get_or-append_right, get_or-replicate, drop_more, drop-append-le}
+use Rattle.std.proofs.lemmas.List.{nil_from_length, append-nil, get_or_push, get_or-set_same, get_or-set_other, length-drop, length_push, get_or_append_left, get_or-append_right, drop_more, drop-append-le}
 use Rattle.circular_buffer.specs.Buffer.{Buffer, keep_last}
 use Rattle.hpe_base.specs.Bits.{zeros}
 use Rattle.hpe_base.specs.Parameters.{Parameters}
 use Rattle.hpe_base.specs.ChannelInterleaver.{delay_at, channel_at}
-use Rattle.hpe_base.proofs.BitLists.{length-zeros}
+use Rattle.hpe_base.proofs.BitLists.{length-zeros, get_or-zeros}
 use Rattle.hpe_base.proofs.Tabulated.{length-tabulate, get_or-tabulate}
 use Rattle.hpe_weave.specs.Turns.{turns, on_row}
 use Rattle.hpe_weave.specs.Weaving.{waiting, HasWoven, IsWeaving}
@@ -46,11 +46,6 @@ length-waiting p s i =
     length-append (zeros (i * p.delay)) (on_row p.rows s i) ∙ (λ k. length-zeros (i * p.delay) k + length-on_row p.rows s i k) in
     omega (arith, length-drop (length (zeros (i * p.delay) ++ on_row p.rows s i) - i * p.delay) (zeros (i * p.delay) ++ on_row p.rows s i))
 
--- each of the zeros is one
-get_or-zeros : (n k : ℕ) → k < n → get_or (zeros n) k 0 ≡ 0
-unfolding zeros
-get_or-zeros n k h = get_or-replicate n k 0 0 h
-
 -- products of the rows, the delay and the turns
 turn-far : (n i rows b c : ℕ) → n < i * b → i < rows → n * rows + i ≡ c → c < i * rows * b
 turn-far n i rows b c h hi e = omega (arith, mul-le (n + 1) rows (i * b) rows (omega arith) (omega arith))
@@ -75,7 +70,7 @@ out_of p s x i n h e en =
       | inl none ↦
           let far : length s < i * p.rows * p.delay = turn-far n i p.rows p.delay (length s) none h place in
           get_or_append_left (zeros (i * p.delay)) (on_row p.rows (s ++ x ∷ []) i) 0 n (let l = length-zeros (i * p.delay) in omega arith)
-          ∙ get_or-zeros (i * p.delay) n none
+          ∙ get_or-zeros (i * p.delay) n
           ∙ sym (cond-false (nat_le (delay_at p (length s)) (length s)) (get_or (s ++ x ∷ []) (length s - delay_at p (length s)) 0) 0 (lt-leb (delay_at p (length s)) (length s) (omega arith)))
       | inr some ↦
           let m = n - i * p.delay in

@@ -1,5 +1,6 @@
 -- What the inverse of the channel interleaver keeps.
 use Rattle.std.specs.Prelude.{ℕ, ◌+◌, ◌-◌, ◌*◌, ◌%◌, ◌<◌, ◌≤◌, ◌≡◌, ◌^◌, List, length, slice_index_or, All, sum, min}
+use Rattle.std.specs.List.{sum_by}
 use Rattle.circular_buffer.specs.Buffer.{Buffer, keep_last}
 use Rattle.hpe_base.specs.Lists.{tabulate}
 use Rattle.hpe_base.specs.Parameters.{Parameters, interleaver_depth, positions}
@@ -36,6 +37,10 @@ pub record IsUnweaving (u : Unweaving) : Type 0 where
   pub turn_in : u.turn < u.parameters.rows
   pub count : length u.rings + 1 ≡ u.parameters.rows
   pub capacity : (j : ℕ) (d : Buffer ℕ) → j + 1 < u.parameters.rows → (slice_index_or u.rings j d).capacity ≡ held_turns u.parameters j * positions u.parameters.order
+
+-- how many sums wait in the rings
+abbrev pub waiting_in : Unweaving → ℕ
+waiting_in u = sum_by (λ ring. length ring.items) u.rings
 
 -- how many sums wait after c pushes: on each row those of the turns so far, or of as many as it is held back by
 abbrev pub held_after : Parameters → ℕ → ℕ

@@ -9,7 +9,6 @@
 mod laws;
 #[cfg(test)]
 mod tests;
-mod turns;
 mod unweaver;
 mod weaver;
 

@@ -20,19 +20,10 @@ const BEYOND: usize = 200;
 fn profile(order: i64, rows: i64, delay: i64) -> Result<Profile, Fail> {
     let p = Profile::new(&Fields {
         order,
-        rate: "1/3",
-        frame_octets: 100,
-        frame_marker: 449_838_109,
-        taps: 169,
-        seed: 255,
-        check: 537_149_449,
-        columns: "111",
         rows,
         delay,
         marker: &[3],
-        repeat: 1,
-        rounds: 16,
-        search: 1,
+        ..Fields::basic()
     })?;
     Ok(p)
 }

@@ -3,10 +3,10 @@ ghost use Rattle.std.specs.Prelude.{◌≡◌, ◌≤◌, ◌+◌, ◌*◌, ◌/
 ghost use Rattle.hpe_base.specs.ChannelInterleaver.{deinterleaved_channel};
 ghost use Rattle.hpe_base.specs.Parameters.{positions, interleaver_depth};
 ghost use Rattle.circular_buffer.specs.Buffer.{buffer, keep_last};
-ghost use Rattle.hpe_weave.specs.Unweaving.{HasUnwoven, held_after};
+ghost use Rattle.hpe_weave.specs.Unweaving.{HasUnwoven, held_after, waiting_in};
 
-use crate::turns::row_after;
 use circular_buffer::HeapCircularBuffer;
+use hpe_base::columns::place_after;
 use hpe_base::{NoMemory, Profile};
 use std::alloc::Global;
 use std::marker::Model;
@@ -96,7 +96,7 @@ impl Unweaver {
         ensures kept { result ≡ false → out.new ≡ out.old }
     {
         let row = self.turn;
-        self.turn = row_after(row, self.rings.len());
+        self.turn = place_after(row, self.rings.len() + 1);
         let due = self.wait == 0;
         self.wait = self.wait.saturating_sub(1);
         if row < self.rings.len() {
@@ -109,6 +109,7 @@ impl Unweaver {
 
     /// The number of slot sums that wait in the rings.
     pub fn held(&self) -> u64
+        ensures rings { result ≡ waiting_in self.now }
         ensures value { (pushed : _) → HasUnwoven self.now pushed → result ≡ held_after self.now.parameters (length pushed) }
         ensures most { (pushed : _) → HasUnwoven self.now pushed → result ≤ positions self.now.parameters.order * interleaver_depth self.now.parameters / 2 }
     {

@@ -4,8 +4,8 @@ ghost use Rattle.hpe_base.specs.ChannelInterleaver.{interleaved_channel};
 ghost use Rattle.hpe_base.specs.Bits.{zeros};
 ghost use Rattle.hpe_weave.specs.Weaving.{HasWoven};
 
-use crate::turns::row_after;
 use circular_buffer::HeapCircularBuffer;
+use hpe_base::columns::place_after;
 use hpe_base::{NoMemory, Profile};
 use std::alloc::Global;
 use std::marker::Model;
@@ -88,7 +88,7 @@ impl Weaver {
             → interleaved_channel self.old.parameters (pushed ++ symbol ∷ []) ≡ interleaved_channel self.old.parameters pushed ++ result ∷ [] }
     {
         let row = self.turn;
-        self.turn = row_after(row, self.rings.len());
+        self.turn = place_after(row, self.rings.len() + 1);
         if row == 0 {
             symbol
         } else {

@@ -1,19 +1,15 @@
 -- The code interleaver over bits.
 use Rattle.std.proofs.Common.{◌≡◌, ◌<◌, ℕ, List, length, get_or, arith}
-use Rattle.std.proofs.lemmas.Nat.{mod_below}
 use Rattle.std.proofs.lemmas.List.Elements.{All-get_or, All-from_get_or}
 use Rattle.hpe_base.specs.Bits.{AreBits}
 use Rattle.hpe_base.specs.CodeInterleaver.{IsInterleaved, interleaved, pi}
 use Rattle.hpe_base.specs.Parameters.{codeword_bits}
 use Rattle.hpe_base.proofs.Tabulated.{tabulate_from_places}
+use Rattle.hpe_base.proofs.Permutation.{pi-lt}
 
 -- interleaved values are the interleaved bits
 pub interleaved_is : (from into : List ℕ) → length into ≡ codeword_bits → IsInterleaved from into → into ≡ interleaved from
 interleaved_is from into h e = tabulate_from_places codeword_bits _ into 0 h (λ k b. e k 0 b)
-
--- each place comes from a place of the codeword
-pi-lt : (j : ℕ) → pi j < codeword_bits
-pi-lt j = mod_below _ codeword_bits (omega arith)
 
 -- interleaved bits are bits
 pub interleaved_bits : (from into : List ℕ) → length from ≡ codeword_bits → length into ≡ codeword_bits → AreBits from → IsInterleaved from into → AreBits into

@@ -1,6 +1,5 @@
-//! The measures of links, by the standard's tables and by hand.
+//! The measures of links, by tables and by hand.
 
-use crate::tests::basic_fields;
 use crate::{Fields, Measures, Order, Profile, Rate, geometry};
 use std::process::Abort;
 use std::test::Fail;
@@ -67,9 +66,11 @@ fn measures_of_orders(rt: HostRuntime) -> Result<(), Fail> {
             ],
         ),
     ] {
-        let mut fields = basic_fields(&marker);
-        fields.order = order;
-        let p = Profile::new(&fields)?;
+        let p = Profile::new(&Fields {
+            order,
+            marker: &marker,
+            ..Fields::basic()
+        })?;
         let expected = Measures {
             steps: 5_040,
             block: 5_006,
@@ -115,6 +116,8 @@ fn another_link(rt: HostRuntime) -> Result<(), Fail> {
         repeat: 3,
         rounds: 4,
         search: 2,
+        count_octets: 2,
+        scale: 6,
     };
     let p = Profile::new(&fields)?.copy();
     assert_eq!(rt; p.order(), Order::P64);
@@ -133,7 +136,10 @@ fn another_link(rt: HostRuntime) -> Result<(), Fail> {
     assert_eq!(rt; p.marker(), [63, 0].as_slice());
     assert_eq!(rt; p.repeat(), 3);
     assert_eq!(rt; p.rounds(), 4);
+    assert_eq!(rt; p.rounds(), 4);
     assert_eq!(rt; p.search(), 2);
+    assert_eq!(rt; p.count_octets(), 2);
+    assert_eq!(rt; p.scale(), 6);
     let expected = Measures {
         steps: 7_560,
         block: 7_526,

@@ -17,6 +17,8 @@ fn with<'a>(key: Key, number: i64, mut fields: Fields<'a>) -> Fields<'a> {
         Key::Repeat => fields.repeat = number,
         Key::Rounds => fields.rounds = number,
         Key::Search => fields.search = number,
+        Key::CountOctets => fields.count_octets = number,
+        Key::Scale => fields.scale = number,
         _ => {}
     }
     fields
@@ -40,6 +42,8 @@ fn ends_of_ranges(rt: HostRuntime) {
         (Key::Repeat, 0, 1, 32, 33),
         (Key::Rounds, 0, 1, 64, 65),
         (Key::Search, 0, 1, 4, 5),
+        (Key::CountOctets, 0, 1, 2, 3),
+        (Key::Scale, 0, 1, 8, 9),
     ];
     for (key, below, lowest, highest, above) in ends {
         for (number, fault) in [

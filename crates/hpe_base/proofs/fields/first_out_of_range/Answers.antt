@@ -22,4 +22,6 @@ returns c =
       c.is_within-7.ensures,
       c.is_within-8.ensures,
       c.is_within-9.ensures,
+      c.is_within-10.ensures,
+      c.is_within-11.ensures,
     ) refl

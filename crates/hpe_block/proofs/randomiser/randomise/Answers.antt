@@ -4,7 +4,7 @@ use Rattle.hpe_block.proofs.Mixing.{Mixing, Mixing-none, Mixing-more, Mixing-all
 use Rattle.hpe_block.proofs.randomiser.randomise.Goals as goal
 
 pub loop-bit-init : goal.loop-bit-init
-loop-bit-init c = rw (c.reverse_bits-register.ensures, c.seed.ensures) (Mixing-none _ _ _)
+loop-bit-init c = rw (c.reverse_bits-register.ensures, c.seed.ensures.value) (Mixing-none _ _ _)
 
 pub loop-bit-preserved : goal.loop-bit-preserved
 loop-bit-preserved c =
@@ -15,7 +15,7 @@ pub returns : goal.returns
 returns c =
     let mixing : Mixing c.taps-taps.result c.args.p.now.seed c.loop-bit.bit-index c.args.bits.now c.loop-bit.bits c.loop-bit.register = c.loop-bit.invariant in
     let sum : c.loop-bit.bits ≡ randomised c.args.p.now c.args.bits.now =
-    rw (← c.taps-taps.ensures) (Mixing-all _ _ c.loop-bit.bit-index c.args.bits.now c.loop-bit.bits _ (omega arith) (omega arith) mixing) in
+    rw (← c.taps-taps.ensures.value) (Mixing-all _ _ c.loop-bit.bit-index c.args.bits.now c.loop-bit.bits _ (omega arith) (omega arith) mixing) in
     record {
       sum = sum;
       twice = ap (randomised c.args.p.now) sum ∙ randomised_twice c.args.p.now c.args.bits.now c.requires.bits;

@@ -1,11 +1,9 @@
-use Rattle.std.proofs.Common.{◌∙◌, refl}
-use Rattle.hpe_cmd.proofs.DecodeStatus.{status_after}
+use Rattle.hpe_cmd.proofs.DecodeCases.{received_run}
 use Rattle.hpe_cmd.proofs.decode.decode.Goals as goal
 
-pub returns-in-Ok-receive-clause-decoded : goal.returns-in-Ok-receive-clause-decoded
-returns-in-Ok-receive-clause-decoded g c = λ _.
-    let all = rw (c.in-Ok.ensures.profile) at c.in-Ok-receive.ensures.ok in
-    (all.0, all.1, c.ending_after.ensures.status ∙ status_after c.args.p.now all.0 c.in-Ok-receive.tally all.2 all.3)
-
-pub returns-in-Err-TooLong-clause-long : goal.returns-in-Err-TooLong-clause-long
-returns-in-Err-TooLong-clause-long g c = λ _. (rw (c.in-Err-TooLong.field-0-is) at c.in-Err-TooLong.ensures.long) refl
+pub returns-clause-ok : goal.returns-clause-ok
+returns-clause-ok g c =
+    let a = c.receive-answer.ensures in
+    received_run _ _ _ _ _ _ _ _ _ _ _ _ _ _ _ _ _ _ _ _ _ c.in-Ok.ensures.profile c.ending_of.ensures c.end.ensures.status
+    c.order-order.ensures.valid c.requires.one a.ok a.no_marker a.cut a.lines a.long a.cause
+    a.report_stands.later c.end.ensures.report.later c.end.ensures.said

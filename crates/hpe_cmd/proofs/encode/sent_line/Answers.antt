@@ -1,5 +1,5 @@
 use Rattle.std.proofs.Common.{refl}
-use Rattle.hpe_cmd.specs.Encoding.{sent_line}
+use Rattle.hpe_cmd.specs.EncodeRun.{sent_line}
 use Rattle.hpe_cmd.proofs.encode.sent_line.Goals as goal
 
 pub returns-clause-text : goal.returns-clause-text

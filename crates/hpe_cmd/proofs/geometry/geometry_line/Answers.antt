@@ -1,5 +1,5 @@
 use Rattle.std.proofs.Common.{refl}
-use Rattle.hpe_cmd.specs.GeometryLine.{geometry_line}
+use Rattle.hpe_cmd.specs.GeometryRun.{geometry_line}
 use Rattle.hpe_cmd.proofs.geometry.geometry_line.Goals as goal
 
 pub returns-clause-text : goal.returns-clause-text

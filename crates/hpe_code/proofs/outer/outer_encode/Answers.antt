@@ -3,7 +3,7 @@ use Rattle.std.proofs.lemmas.List.Elements.{All-get_or}
 use Rattle.hpe_code.proofs.Encoding.{Encoding-none, Encoding-more, column_below, kept_at_is, kept_at_fits, Encoding-all}
 use Rattle.hpe_base.specs.Bits.{AreBits}
 use Rattle.hpe_base.specs.ConvolutionalCode.{code_bits}
-use Rattle.hpe_code.proofs.CodeBits.{are_bits-code_bits}
+use Rattle.hpe_base.proofs.Shapes.{are_bits-code_bits}
 use Rattle.hpe_code.proofs.outer.outer_encode.Goals as goal
 
 pub loop-bit-init : goal.loop-bit-init
@@ -30,7 +30,7 @@ place_after-column-requires c = column_below _ _ _ _ _ _ _ _ c.requires.columns.
 pub loop-bit-preserved : goal.loop-bit-preserved
 loop-bit-preserved c =
     let bit : get_or c.args.u.now c.loop-bit.bit-index 0 < 2 = All-get_or (λ b. b < 2) c.args.u.now c.loop-bit.bit-index 0 (omega arith) c.requires.bits in
-    Encoding-more _ _ c.loop-bit.kept _ c.loop-bit.bit-index c.loop-bit.column _ c.loop-bit.at _ _ _ _ c.loop-bit.invariant bit c.place_after-column.ensures
+    Encoding-more _ _ c.loop-bit.kept _ c.loop-bit.bit-index c.loop-bit.column _ c.loop-bit.at _ _ _ _ c.loop-bit.invariant bit c.place_after-column.ensures.value
     (kept_at_is _ _ _ c.loop-bit.bit-index _ _ _ _ c.loop-bit.invariant bit) c.put_selected-at.ensures.place c.put_selected-at.ensures.written
 
 pub returns : goal.returns

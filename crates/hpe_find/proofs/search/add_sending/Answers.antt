@@ -2,7 +2,6 @@ use Rattle.std.proofs.Common.{◌^◌, ◌≡◌, ◌≤◌, ◌<◌, ◌+◌, �
 use Rattle.hpe_base.specs.Lists.{tabulate}
 use Rattle.hpe_base.specs.Parameters.{symbol_slots}
 use Rattle.hpe_find.proofs.Sums.{Added-none, Added-more, Added-small}
-use Rattle.hpe_find.proofs.Sizes.{symbol_slots_is}
 use Rattle.hpe_find.proofs.Terms.{symbol_term, symbol_terms, symbol_count}
 use Rattle.hpe_find.proofs.search.add_sending.Goals as goal
 
@@ -12,8 +11,8 @@ loop-r-init c = Added-none _ _
 pub add_counts-requires : goal.add_counts-requires
 add_counts-requires c = record {
   small = λ k b.
-      let short : length c.marker-marker.result.now ≤ 64 = omega (arith, ap length c.marker-marker.ensures.value, c.marker-marker.ensures.valid.marker_high) in
-      let small = Added-small (symbol_term c.args.p.now c.args.counts.now c.args.start) c.args.sums.now c.loop-r.sums c.loop-r.r 255 (2 ^ 14)
+      let short : length c.marker-marker.result.now ≤ 64 = omega (arith, ap length c.marker-marker.ensures.value, c.marker-marker.ensures.valid.range.marker_high) in
+      let small = Added-small (symbol_term c.args.p.now c.args.counts.now c.args.start) c.args.sums.now c.loop-r.sums c.loop-r.r 65535 (2 ^ 30)
       c.loop-r.invariant c.loop-r.auto.sums c.requires.small (λ k r. omega (arith, c.type_inv.counts (c.args.start + k + r * symbol_slots c.args.p.now + get_or c.args.p.now.marker r 0))) k b in
       omega arith;
 }
@@ -21,10 +20,9 @@ add_counts-requires c = record {
 pub loop-r-preserved : goal.loop-r-preserved
 loop-r-preserved c =
     let symbol : get_or c.marker-marker.result.now c.loop-r.r 0 ≡ get_or c.args.p.now.marker c.loop-r.r 0 = ap (λ xs. get_or xs c.loop-r.r 0) c.marker-marker.ensures.value in
-    let slots = symbol_slots_is c.geometry-symbol_slots.result c.args.p.now c.geometry-symbol_slots.ensures.value in
     Added-more (symbol_term c.args.p.now c.args.counts.now c.args.start) _ _ _ _ c.loop-r.invariant c.add_counts.auto.sums
     (λ k b. c.add_counts.ensures k b ∙ ap (λ t. get_or c.loop-r.sums k 0 + t)
-    (symbol_count c.args.p.now c.args.counts.now c.args.start c.loop-r.r _ _ k slots symbol))
+    (symbol_count c.args.p.now c.args.counts.now c.args.start c.loop-r.r _ _ k c.symbol_slots-symbol_slots.ensures.value symbol))
 
 pub returns : goal.returns
 returns c = λ k b.

@@ -1,6 +1,6 @@
 use Rattle.std.proofs.Common.{ℕ, arith}
 use Rattle.std.proofs.lemmas.List.{length-take}
-use Rattle.hpe_find.proofs.Sizes.{period_is, period-pos, period-le}
+use Rattle.hpe_base.proofs.ParameterLemmas.{period_is, period-pos, period-le}
 use Rattle.hpe_find.proofs.search.best_offset.Goals as goal
 
 pub nonzero_div-counts : goal.nonzero_div-counts

@@ -1,11 +1,11 @@
 use Rattle.std.proofs.Common.{◌^◌, ◌≡◌, ◌≤◌, ◌<◌, ◌+◌, ◌*◌, ℕ, length, get_or, arith, ◌∙◌, ap, sum}
 use Rattle.std.proofs.lemmas.Grind.{common_steps}
 use Rattle.hpe_base.specs.Lists.{tabulate}
-use Rattle.hpe_base.specs.Parameters.{period_slots}
+use Rattle.hpe_base.specs.Parameters.{sending_slots, period_slots}
 use Rattle.hpe_base.specs.MarkerSearch.{marker_sum, searched_periods, score}
 use Rattle.hpe_find.proofs.Sums.{Added-none, Added-more, Added-small}
-use Rattle.hpe_find.proofs.Sizes.{period_is, periods-le}
-use Rattle.hpe_find.proofs.Terms.{period_term, period_terms, sending_terms, marker_sum-le}
+use Rattle.hpe_base.proofs.ParameterLemmas.{period_is, periods-le}
+use Rattle.hpe_find.proofs.Terms.{period_term, period_terms, sending_terms, marker_sum-le, sending_sum-le}
 use Rattle.hpe_find.proofs.search.score_row.Goals as goal
 
 place_here : (from j k x y : ℕ) → x ≡ y → from + j * x + k ≡ from + k + j * y
@@ -41,11 +41,20 @@ add_sending-requires-clause-start c =
 pub add_repeats-requires-clause-small : goal.add_repeats-requires-clause-small
 add_repeats-requires-clause-small c = λ k b.
     let valid = c.geometry-period.ensures.valid in
-    let periods : c.args.p.now.search ≤ 4 = valid.search_high in
-    let small = Added-small (period_term c.args.p.now c.args.counts.now c.args.from) c.fill.new.self c.loop-j.scores c.loop-j.j 522240 0
+    let periods : c.args.p.now.search ≤ 4 = valid.range.search_high in
+    let small = Added-small (period_term c.args.p.now c.args.counts.now c.args.from) c.fill.new.self c.loop-j.scores c.loop-j.j 134215680 0
     c.loop-j.invariant c.loop-j.auto.scores (λ k b. let zero : get_or c.fill.new.self k 0 ≡ 0 = grind (arith, common_steps) in omega arith)
-    (λ k i. marker_sum-le c.args.p.now c.args.counts.now _ valid.repeat_high valid.marker_high (λ n. omega (arith, c.type_inv.counts n))) k b in
+    (λ k i. marker_sum-le c.args.p.now c.args.counts.now _ valid.range.repeat_high valid.range.marker_high (λ n. omega (arith, c.type_inv.counts n))) k b in
     omega arith
+
+pub add_repeats-requires-clause-terms : goal.add_repeats-requires-clause-terms
+add_repeats-requires-clause-terms c = λ x a.
+    let zero : get_or c.fill-in-loop-j.new.self x 0 ≡ 0 = grind (arith, common_steps) in
+    omega (
+      arith,
+      c.add_sending.ensures x (omega arith),
+      sending_sum-le c.args.p.now c.args.counts.now (c.args.from + c.loop-j.j * c.geometry-period.result.period + x) c.geometry-period.ensures.valid.range.marker_high (λ n. omega (arith, c.type_inv.counts n)),
+    )
 
 pub loop-j-preserved : goal.loop-j-preserved
 loop-j-preserved c =
@@ -53,7 +62,7 @@ loop-j-preserved c =
     let start = c.args.from + c.loop-j.j * c.geometry-period.result.period in
     Added-more (period_term c.args.p.now c.args.counts.now c.args.from) _ _ _ _ c.loop-j.invariant c.add_repeats.auto.scores
     (λ k b. c.add_repeats.ensures k b ∙ ap (λ t. get_or c.loop-j.scores k 0 + t)
-    (sending_terms c.args.p.now c.args.counts.now c.add_sending.new.sums start k _ _ c.repeat-repeat.ensures.value c.sending_slots-stride.ensures.value (omega arith)
+    (sending_terms c.args.p.now c.args.counts.now c.add_sending.new.sums start k _ _ c.repeat-repeat.ensures.value (c.sending_slots-stride.ensures.value ∙ ap sending_slots c.order.ensures.value) (omega arith)
     (λ x a.
     let zero : get_or c.fill-in-loop-j.new.self x 0 ≡ 0 = grind (arith, common_steps) in
     omega (arith, c.add_sending.ensures x (omega arith)))

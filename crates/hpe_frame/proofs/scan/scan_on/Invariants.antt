@@ -1,4 +1,5 @@
 use Rattle.std.proofs.Common.{◌≡◌, ◌-◌, ◌≤◌, length, []}
+use Rattle.hpe_io.specs.Standing.{SinkServes}
 use Rattle.hpe_frame.proofs.Running.{Running}
 use Rattle.hpe_frame.proofs.scan.scan_on.Given as goal
 
@@ -8,8 +9,7 @@ invariant-loop-run g l = record {
   within : l.run.at ≤ length l.bits;
   few : l.run.delivered ≤ l.run.at;
   size : length l.octets ≡ length l.initial.octets;
-  later : g.O.Sink.faults l.initial.out ≤ g.O.Sink.faults l.out;
-  mark : g.O.Sink.mark l.out ≡ g.O.Sink.mark l.initial.out;
+  sink : SinkServes g.O.Sink.faults g.O.Sink.mark l.initial.out l.out;
 }
 
 abbrev pub decreases-loop-run : goal.decreases-loop-run

@@ -1,38 +1,44 @@
-use Rattle.std.proofs.Common.{ℕ, ◌+◌, ◌*◌, ◌<◌, ◌≤◌, get_or, [], length, arith, ℤ, List}
-use Rattle.hpe_inner.proofs.ForwardRow.{ForwardRows-more, ForwardRows-first, row_fits, below_cap, stage_best, inner-within, two_or_more}
-use Rattle.std.proofs.lemmas.List.{length-set}
-use Rattle.hpe_inner.proofs.Orders.{symbol_bits-low}
+use Rattle.std.proofs.Common.{◌≡◌, ℕ, ◌+◌, ◌*◌, ◌<◌, get_or, [], ◌∷◌, length, arith, rules, ℤ, List, pos, negsuc, subst, sym, to_z, of_z, w32}
 use Rattle.hpe_base.specs.Parameters.{symbol_bits}
+use Rattle.hpe_base.specs.Sizes.{number_at}
+use Rattle.hpe_lane.specs.Windows.{windows, windows_end}
+use Rattle.hpe_lane.proofs.WindowEnds.{rows-set, window_start, no_window}
+use Rattle.hpe_inner.specs.Sweeps.{IsForwardRow}
+use Rattle.hpe_inner.proofs.ForwardRow.{IsForwardRow-first, IsForwardRow-same}
 use Rattle.hpe_inner.proofs.forward.forward_sweep.Goals as goal
 
-pub loop-t-init : goal.loop-t-init
-loop-t-init g c = record {
-  rows = ForwardRows-first (symbol_bits c.args.order) c.args.counts.now c.args.l.now c.args.rows.now (omega arith);
-  cost = omega arith;
+pub loop-w-init : goal.loop-w-init
+loop-w-init g c = record {
+  now = subst (λ (t : ℕ). IsForwardRow (symbol_bits c.args.order) t c.args.counts.now c.args.l.now (pos 0 ∷ negsuc 1073741823 ∷ [])) (sym (no_window c.args.n)) (IsForwardRow-first (symbol_bits c.args.order) c.args.counts.now c.args.l.now);
+  kept = λ v h. absurd {A = IsForwardRow (symbol_bits c.args.order) (64 * v) c.args.counts.now c.args.l.now (get_or c.args.kept.now v [])} (omega (arith, h));
+  cost = let z = no_window c.args.n in omega (arith, z);
 }
 
-pub stage_forward-requires-clause-row : goal.stage_forward-requires-clause-row
-stage_forward-requires-clause-row g c =
-    let le : c.loop-t.t ≤ c.args.n = omega arith in
-    row_fits ((symbol_bits c.args.order + 1) * 16383) c.loop-t.t (get_or c.loop-t.rows c.loop-t.t []) (below_cap c.loop-t.t c.args.n ((symbol_bits c.args.order + 1) * 16383) le c.requires.short) (c.loop-t.invariant.rows.small c.loop-t.t (omega arith))
+pub window_rows-next-requires-clause-first : goal.window_rows-next-requires-clause-first
+window_rows-next-requires-clause-first g c =
+    let lw : c.loop-w.w < windows c.args.n = omega arith in
+    subst (λ (t : ℕ). IsForwardRow (symbol_bits c.args.order) t c.args.counts.now c.args.l.now (to_z w32 c.loop-w.even-bits ∷ to_z w32 c.loop-w.odd-bits ∷ [])) (window_start c.args.n c.loop-w.w lw) c.loop-w.invariant.now
 
-pub loop-t-preserved : goal.loop-t-preserved
-loop-t-preserved g c =
+pub loop-w-preserved : goal.loop-w-preserved
+loop-w-preserved g c =
     let m : ℕ = symbol_bits c.args.order in
     let n : ℕ = c.args.n in
-    let t : ℕ = c.loop-t.t in
+    let w : ℕ = c.loop-w.w in
+    let count : ℕ = c.min-count.result in
     let counts : List ℕ = c.args.counts.now in
     let l : List ℤ = c.args.l.now in
-    let rows : List (List ℤ) = c.loop-t.rows in
-    let next : List ℤ = c.stage_forward.result in
-    let size : ℕ = c.slots-size.result in
-    let lt : t < n = c.loop-t-test.true in
-    let more : t + 1 ≤ n = omega arith in
-    let cap : (t + 1) * ((m + 1) * 16383) ≤ 1100000000 = below_cap (t + 1) n ((m + 1) * 16383) more c.requires.short in
-    let room : t + 1 < length rows = omega (arith, length-set {A = List ℤ}) in
+    let kept : List (List ℤ) = c.loop-w.kept in
+    let row : List ℤ = to_z w32 c.loop-w.even-bits ∷ to_z w32 c.loop-w.odd-bits ∷ [] in
+    let next : List ℤ = c.window_rows-next.result in
+    let lw : w < windows n = omega arith in
+    let x : to_z w32 (of_z w32 (get_or next 0 (pos 0))) ≡ number_at next 0 = search rules in
+    let y : to_z w32 (of_z w32 (get_or next 1 (pos 0))) ≡ number_at next 1 = search rules in
+    let start : windows_end n w ≡ 64 * w = window_start n w lw in
+    let e : 64 * w + count ≡ windows_end n (w + 1) = omega (arith, c.min-count.ensures) in
+    let room : w < length kept = omega arith in
+    let now : IsForwardRow m (64 * w) counts l row = subst (λ (t : ℕ). IsForwardRow m t counts l row) start c.loop-w.invariant.now in
     record {
-      rows = ForwardRows-more m t counts l rows next room (two_or_more m (symbol_bits-low c.args.order)) cap
-          (inner-within m n t counts l c.requires.l lt c.requires.most c.requires.within) c.loop-t.invariant.rows
-          (stage_best m c.bits-m.result n t size counts l (get_or rows t []) next c.bits-m.ensures c.slots-size.ensures c.requires.l lt c.stage_forward.ensures.row);
-      cost = omega (arith, c.stage_forward.ensures.step);
+      now = IsForwardRow-same m (windows_end n (w + 1)) counts l next _ _ x y (subst (λ (t : ℕ). IsForwardRow m t counts l next) e c.window_rows-next.ensures.next);
+      kept = rows-set (λ (v : ℕ) (here : List ℤ). IsForwardRow m (64 * v) counts l here) w kept row room c.loop-w.invariant.kept now;
+      cost = omega (arith, c.window_rows-next.ensures.cost, c.loop-w.invariant.cost, e, start);
     }

@@ -1,8 +1,21 @@
-use Rattle.std.proofs.Common.{◌≡◌, ℕ, ℤ, List, drop, take, length, arith, ◌∙◌}
+use Rattle.std.proofs.Common.{◌≡◌, ℕ, ℤ, List, drop, take, length, arith, ◌∙◌, ◌≤◌, ◌^◌}
 use Rattle.std.proofs.Math.ListN.{length-set}
+use Rattle.std.proofs.Math.Pow.{pow_mono}
 use Rattle.std.proofs.lemmas.List.{length-take}
 use Rattle.hpe_lane.proofs.DifferingBits.{two_halves, gray_low_within, gray_more}
 use Rattle.hpe_lane.proofs.gray.gray_scores.Goals as goal
+
+three_or_more : (m : ℕ) → 3 ≤ m → 8 ≤ 2 ^ m
+three_or_more m h = pow_mono {i = 3} {j = m} h
+
+pub slice_bounds-gray_eight-end-then-m-ge3 : goal.slice_bounds-gray_eight-end-then-m-ge3
+slice_bounds-gray_eight-end-then-m-ge3 c = let t = three_or_more (length c.args.l.now) c.if-m-ge3.true in omega (arith, length-set {A = ℤ})
+
+pub slice_bounds-gray_eight-end-then-m-ge3-2 : goal.slice_bounds-gray_eight-end-then-m-ge3-2
+slice_bounds-gray_eight-end-then-m-ge3-2 c = let t = three_or_more (length c.args.l.now) c.if-m-ge3.true in simp length-take (omega (arith, length-set {A = ℤ}))
+
+pub gray_eight-requires-clause-eight : goal.gray_eight-requires-clause-eight
+gray_eight-requires-clause-eight c = let t = three_or_more (length c.args.l.now) c.if-m-ge3.true in simp length-take (omega (arith, length-set {A = ℤ}))
 
 pub split_at_mut-low-requires : goal.split_at_mut-low-requires
 split_at_mut-low-requires c = let t = two_halves c.loop-k.k (length c.args.l.now) c.loop-k-test.true in omega (arith, length-set {A = ℤ})

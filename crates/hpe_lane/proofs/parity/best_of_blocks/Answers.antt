@@ -14,7 +14,7 @@ loop-j-preserved c =
       even = λ i h. elim c.if-v-mask-eq0.branch [
         | then-v-mask-eq0 w ↦
             subst (λ (ys : List ℤ). IsBest (InLane mask 0 i (j + 1)) (number_at xs) (number_at ys i)) (sym w.even-is)
-            (lanes-raised mask 0 j xs c.loop-j.even w.raise_lanes.new.best (omega arith) w.if-v-mask-eq0.true c.loop-j.invariant.even w.raise_lanes.ensures i h)
+            (lanes-raised mask 0 j xs c.loop-j.even w.greater_eight.new.best w.if-v-mask-eq0.true c.loop-j.invariant.even w.greater_eight.ensures i h)
         | else-v-mask-eq0 w ↦
             subst (λ (ys : List ℤ). IsBest (InLane mask 0 i (j + 1)) (number_at xs) (number_at ys i)) (sym w.even-is)
             (lane-pass mask 0 i j (number_at xs) (number_at c.loop-j.even i) w.if-v-mask-eq0.false (c.loop-j.invariant.even i h))
@@ -25,7 +25,7 @@ loop-j-preserved c =
             (lane-pass mask 1 i j (number_at xs) (number_at c.loop-j.odd i) (λ e. omega (arith, e, w.if-v-mask-eq0.true)) (c.loop-j.invariant.odd i h))
         | else-v-mask-eq0 w ↦
             subst (λ (ys : List ℤ). IsBest (InLane mask 1 i (j + 1)) (number_at xs) (number_at ys i)) (sym w.odd-is)
-            (lanes-raised mask 1 j xs c.loop-j.odd w.raise_lanes-else-v-mask-eq0.new.best (omega arith) (omega (arith, w.if-v-mask-eq0.false)) c.loop-j.invariant.odd w.raise_lanes-else-v-mask-eq0.ensures i h)
+            (lanes-raised mask 1 j xs c.loop-j.odd w.greater_eight-else-v-mask-eq0.new.best (omega (arith, w.if-v-mask-eq0.false)) c.loop-j.invariant.odd w.greater_eight-else-v-mask-eq0.ensures i h)
       ];
     }
 

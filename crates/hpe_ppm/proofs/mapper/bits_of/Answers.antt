@@ -15,16 +15,16 @@ loop-s-preserved c =
     let start : c.loop-s.s * c.bits-size.result ≡ c.loop-s.s * width = ap (λ n. c.loop-s.s * n) c.bits-size.ensures in
     let within : c.loop-s.s * width + width ≤ length c.loop-s.out =
     omega (arith, piece_within (length c.args.symbols.now) width c.loop-s.s c.loop-s-test.true, c.loop-s.auto.out, c.requires.size) in
-    let long : length c.write_bits.new.bits ≡ width =
-    c.write_bits.auto.bits ∙ (length-piece c.loop-s.out (c.loop-s.s * c.bits-size.result) c.bits-size.result (omega (arith, start, within, c.bits-size.ensures)) ∙ c.bits-size.ensures) in
-    let piece : c.write_bits.new.bits ≡ bits_of width (get_or c.args.symbols.now c.loop-s.s 0) =
-    c.write_bits.ensures ∙ ap (λ n. bits_of n (get_or c.args.symbols.now c.loop-s.s 0)) (sym c.write_bits.auto.bits ∙ long) in
+    let long : length c.write_bits.new.into ≡ width =
+    c.write_bits.auto.into ∙ (length-piece c.loop-s.out (c.loop-s.s * c.bits-size.result) c.bits-size.result (omega (arith, start, within, c.bits-size.ensures)) ∙ c.bits-size.ensures) in
+    let piece : c.write_bits.new.into ≡ bits_of width (get_or c.args.symbols.now c.loop-s.s 0) =
+    c.write_bits.ensures.value ∙ ap (λ n. bits_of n (get_or c.args.symbols.now c.loop-s.s 0)) (sym c.write_bits.auto.into ∙ long) in
     let next : (c.loop-s.s + 1) * width ≡ c.loop-s.s * width + width = grind arith in
-    let end : (c.loop-s.s + 1) * width ≡ c.loop-s.s * c.bits-size.result + length c.write_bits.new.bits = omega (arith, start, next, long) in
+    let end : (c.loop-s.s + 1) * width ≡ c.loop-s.s * c.bits-size.result + length c.write_bits.new.into = omega (arith, start, next, long) in
     let front : take (c.loop-s.s * c.bits-size.result) c.loop-s.out ≡ mapped_bits c.args.order (take c.loop-s.s c.args.symbols.now) =
     ap (λ n. take n c.loop-s.out) start ∙ c.loop-s.invariant in
-    take-put_mid _ _ c.loop-s.out c.write_bits.new.bits _ end (omega (arith, start, within))
-    ∙ (ap (λ bits. bits ++ c.write_bits.new.bits) front
+    take-put_mid _ _ c.loop-s.out c.write_bits.new.into _ end (omega (arith, start, within))
+    ∙ (ap (λ bits. bits ++ c.write_bits.new.into) front
     ∙ (ap (λ bits. mapped_bits c.args.order (take c.loop-s.s c.args.symbols.now) ++ bits) piece
     ∙ sym (flat_map-take_more (bits_of width) c.args.symbols.now c.loop-s.s 0 c.loop-s-test.true)))
 

@@ -22,7 +22,7 @@ loop-symbol-preserved c =
     ap (λ m. get_or m c.loop-symbol.symbol-index 0) c.marker-symbol-items.ensures.value in
     let low : get_or c.args.p.now.marker c.loop-symbol.symbol-index 0 < positions c.args.p.now.order =
     All-get_or (λ v. v < positions c.args.p.now.order) c.args.p.now.marker c.loop-symbol.symbol-index 0 here c.marker-symbol-items.ensures.valid.marker_value in
-    let size : c.sending_slots-size.result ≡ sending_slots c.args.p.now.order = c.sending_slots-size.ensures ∙ ap sending_slots c.order.ensures.value in
+    let size : c.sending_slots-size.result ≡ sending_slots c.args.p.now.order = c.sending_slots-size.ensures.value ∙ ap sending_slots c.order.ensures.value in
     let pulses = rw (size, c.repeat-repeat.ensures.value) at c.pulse_sum-score.ensures.value in
     Scoring-more _ _ c.loop-symbol.symbol-index c.loop-symbol.start _ c.loop-symbol.score _ _ (ap (λ q. c.loop-symbol.start + q) (sym c.symbol_slots-symbol_size.ensures.value)) symbol
     (omega (arith, symbol, low)) pulses (omega arith) c.loop-symbol.invariant

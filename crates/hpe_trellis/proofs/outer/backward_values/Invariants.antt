@@ -1,12 +1,11 @@
-use Rattle.std.proofs.Common.{◌≡◌, ◌+◌, ◌-◌, ◌%◌, length}
+use Rattle.std.proofs.Common.{◌≡◌, ◌+◌, ◌-◌, ◌*◌, length}
+use Rattle.hpe_lane.specs.Windows.{windows_end}
 use Rattle.hpe_trellis.specs.OuterTrellis.{kept_before, OuterBack, SoftFrom}
 use Rattle.hpe_trellis.proofs.outer.backward_values.Given as goal
 
-abbrev pub invariant-loop-t : goal.invariant-loop-t
-invariant-loop-t g l = record {
-  back : OuterBack l.t (l.n - l.t) l.columns l.l l.back;
-  place : l.place ≡ l.t % length l.columns;
-  at : l.at ≡ kept_before l.columns l.t;
-  soft : SoftFrom l.columns l.l (length l.fn.info) l.t l.at l.info l.code;
-  cost : l.steps ≡ l.fn.steps + (l.n - l.t);
+abbrev pub invariant-loop-k : goal.invariant-loop-k
+invariant-loop-k g l = record {
+  back : OuterBack (windows_end l.n (length l.kept - l.k)) (l.n - windows_end l.n (length l.kept - l.k)) l.columns l.l l.back;
+  soft : SoftFrom l.columns l.l (length l.fn.info) (windows_end l.n (length l.kept - l.k)) (kept_before l.columns (windows_end l.n (length l.kept - l.k))) l.info l.code;
+  cost : l.steps ≡ l.initial.steps + 2 * (l.n - windows_end l.n (length l.kept - l.k));
 }

@@ -1,65 +1,47 @@
-use Rattle.std.proofs.Common.{rules, arith, ◌≡◌, ◌<◌, ◌≤◌, ◌+◌, ℕ, List, [], ℤ, Bool, length, get_or, get_or-set_same, refl, sym, subst, ◌∙◌}
-use Rattle.std.proofs.Math.Nat.{zero-mod}
-use Rattle.std.proofs.lemmas.List.{length-set}
-use Rattle.hpe_base.specs.Sizes.{number_at, Within}
-use Rattle.hpe_base.specs.Parameters.{flags_set}
-use Rattle.hpe_trellis.specs.OuterTrellis.{width}
-use Rattle.hpe_trellis.proofs.Bounds.{fore_fits}
-use Rattle.hpe_trellis.proofs.Recursion.{OuterRows-first, OuterRows-more, StepIs, first_row, step_room, before_cap, before_next, width_at, step_is, place_on}
+use Rattle.std.proofs.Common.{arith, ◌≡◌, ◌<◌, ◌≤◌, ◌+◌, ◌*◌, ℕ, List, [], ℤ, Bool, length, get_or, sym, subst}
+use Rattle.hpe_lane.specs.Windows.{windows, windows_end}
+use Rattle.hpe_lane.proofs.WindowEnds.{rows-set, window_start, no_window}
+use Rattle.hpe_trellis.specs.OuterTrellis.{OuterFore}
+use Rattle.hpe_trellis.proofs.Recursion.{OuterFore-first, before-mono, first_row}
 use Rattle.hpe_trellis.proofs.outer.forward_rows.Goals as goal
 
-pub loop-t-init : goal.loop-t-init
-loop-t-init g c =
-    let room : 0 < length c.args.rows.now = omega arith in
+pub loop-w-init : goal.loop-w-init
+loop-w-init g c =
+    let z = no_window c.args.n in
     record {
-      rows = OuterRows-first c.args.columns.now c.args.l.now c.args.rows.now room;
-      row = get_or-set_same c.args.rows.now 0 first_row [] room;
-      place = sym (zero-mod (length c.args.columns.now));
-      at = refl;
-      cost = omega arith;
+      now = subst (λ (t : ℕ). OuterFore t c.args.columns.now c.args.l.now first_row) (sym z) (OuterFore-first c.args.columns.now c.args.l.now);
+      kept = λ v h. absurd {A = OuterFore (64 * v) c.args.columns.now c.args.l.now (get_or c.args.kept.now v [])} (omega (arith, h));
+      cost = omega (arith, z);
     }
 
-pub step_numbers-numbers-requires-clause-room : goal.step_numbers-numbers-requires-clause-room
-step_numbers-numbers-requires-clause-room g c =
-    let columns : List (List Bool) = c.args.columns.now in
-    let t : ℕ = c.loop-t.t in
-    let three : length (get_or columns c.loop-t.place []) ≡ 3 = search rules in
-    let w : flags_set (get_or columns c.loop-t.place []) ≡ width columns t = width_at columns t c.loop-t.place c.loop-t.invariant.place three in
-    omega (arith, step_room columns c.args.n t c.loop-t.at (length c.args.l.now) c.loop-t-test.true c.loop-t.invariant.at c.requires.l, w)
+pub window_rows-next-requires-clause-first : goal.window_rows-next-requires-clause-first
+window_rows-next-requires-clause-first g c =
+    let lw : c.loop-w.w < windows c.args.n = omega arith in
+    subst (λ (t : ℕ). OuterFore t c.args.columns.now c.args.l.now c.loop-w.row) (window_start c.args.n c.loop-w.w lw) c.loop-w.invariant.now
 
-pub outer_forward-next-requires-clause-row : goal.outer_forward-next-requires-clause-row
-outer_forward-next-requires-clause-row g c = λ q h.
-    let t : ℕ = c.loop-t.t in
-    let le : t ≤ c.args.n = omega arith in
-    subst (λ (row : List ℤ). Within 600000000 (number_at row q)) c.loop-t.invariant.row
-    (fore_fits c.args.columns.now c.args.l.now c.requires.within t q (number_at (get_or c.loop-t.rows t []) q) (before_cap c.args.columns.now c.args.n t (length c.args.l.now) le c.requires.l c.requires.short) h
-    (c.loop-t.invariant.rows.top t q (omega arith) h))
+pub window_rows-next-requires-clause-inside : goal.window_rows-next-requires-clause-inside
+window_rows-next-requires-clause-inside g c =
+    let lw : c.loop-w.w < windows c.args.n = omega arith in
+    let e : 64 * c.loop-w.w + c.min-count.result ≤ c.args.n = omega (arith, c.min-count.ensures) in
+    let m = before-mono c.args.columns.now c.args.n (64 * c.loop-w.w + c.min-count.result) e in
+    omega (arith, m, c.requires.l)
 
-pub overflow_add-at : goal.overflow_add-at
-overflow_add-at g c =
-    let columns : List (List Bool) = c.args.columns.now in
-    let t : ℕ = c.loop-t.t in
-    let three : length (get_or columns c.loop-t.place []) ≡ 3 = search rules in
-    let w : flags_set (get_or columns c.loop-t.place []) ≡ width columns t = width_at columns t c.loop-t.place c.loop-t.invariant.place three in
-    let room : c.loop-t.at + width columns t ≤ length c.args.l.now = step_room columns c.args.n t c.loop-t.at (length c.args.l.now) c.loop-t-test.true c.loop-t.invariant.at c.requires.l in
-    let small : c.loop-t.at + c.kept_outputs-at.result ≤ 15120 = omega (arith, c.kept_outputs-at.ensures) in
-    search rules
-
-pub loop-t-preserved : goal.loop-t-preserved
-loop-t-preserved g c =
-    let t : ℕ = c.loop-t.t in
+pub loop-w-preserved : goal.loop-w-preserved
+loop-w-preserved g c =
+    let n : ℕ = c.args.n in
+    let w : ℕ = c.loop-w.w in
+    let count : ℕ = c.min-count.result in
     let columns : List (List Bool) = c.args.columns.now in
     let l : List ℤ = c.args.l.now in
-    let rows : List (List ℤ) = c.loop-t.rows in
-    let r : List ℤ = c.step_numbers-numbers.result in
-    let room : t + 1 < length rows = omega (arith, length-set {A = List ℤ}) in
-    let three : length (get_or columns c.loop-t.place []) ≡ 3 = search rules in
-    let w : flags_set (get_or columns c.loop-t.place []) ≡ width columns t = width_at columns t c.loop-t.place c.loop-t.invariant.place three in
-    let same : StepIs columns l t r = step_is columns l t c.loop-t.place c.loop-t.at r c.loop-t.invariant.place c.loop-t.invariant.at c.step_numbers-numbers.ensures.edge in
+    let row : List ℤ = c.loop-w.row in
+    let next : List ℤ = c.window_rows-next.result in
+    let lw : w < windows n = omega arith in
+    let start : windows_end n w ≡ 64 * w = window_start n w lw in
+    let e : 64 * w + count ≡ windows_end n (w + 1) = omega (arith, c.min-count.ensures) in
+    let room : w < length c.loop-w.kept = omega arith in
+    let now : OuterFore (64 * w) columns l row = subst (λ (t : ℕ). OuterFore t columns l row) start c.loop-w.invariant.now in
     record {
-      rows = OuterRows-more columns l t r rows c.loop-t.row c.outer_forward-next.result room same c.loop-t.invariant.rows c.loop-t.invariant.row c.outer_forward-next.ensures.row;
-      row = get_or-set_same rows (t + 1) c.outer_forward-next.result [] room;
-      place = c.place_after-place.ensures ∙ place_on t (length columns) c.loop-t.place c.loop-t.invariant.place;
-      at = omega (arith, c.loop-t.invariant.at, before_next columns t, c.kept_outputs-at.ensures);
-      cost = omega (arith, c.outer_forward-next.ensures.step);
+      now = subst (λ (t : ℕ). OuterFore t columns l next) e c.window_rows-next.ensures.next;
+      kept = rows-set (λ (v : ℕ) (here : List ℤ). OuterFore (64 * v) columns l here) w c.loop-w.kept row room c.loop-w.invariant.kept now;
+      cost = omega (arith, c.window_rows-next.ensures.cost, c.loop-w.invariant.cost, e, start);
     }

@@ -1,12 +1,11 @@
-use Rattle.std.proofs.Common.{◌≡◌, ◌+◌, ◌%◌, [], length, get_or}
-use Rattle.hpe_trellis.specs.OuterTrellis.{kept_before, OuterRows}
+use Rattle.std.proofs.Common.{◌≡◌, ℕ, ◌+◌, ◌*◌, ◌<◌, [], get_or}
+use Rattle.hpe_lane.specs.Windows.{windows_end}
+use Rattle.hpe_trellis.specs.OuterTrellis.{OuterFore}
 use Rattle.hpe_trellis.proofs.outer.forward_rows.Given as goal
 
-abbrev pub invariant-loop-t : goal.invariant-loop-t
-invariant-loop-t g l = record {
-  rows : OuterRows l.t l.columns l.l l.rows;
-  row : get_or l.rows l.t [] ≡ l.row;
-  place : l.place ≡ l.t % length l.columns;
-  at : l.at ≡ kept_before l.columns l.t;
-  cost : l.steps ≡ l.fn.steps + l.t;
+abbrev pub invariant-loop-w : goal.invariant-loop-w
+invariant-loop-w g l = record {
+  now : OuterFore (windows_end l.n l.w) l.columns l.l l.row;
+  kept : (v : ℕ) → v < l.w → OuterFore (64 * v) l.columns l.l (get_or l.kept v []);
+  cost : l.steps ≡ l.initial.steps + windows_end l.n l.w;
 }

@@ -33,3 +33,6 @@ overflow_cast-result-5 c = omega (arith, (in_range c.args.fields.now c.requires)
 
 pub invariant_of-result : goal.invariant_of-result
 invariant_of-result c = IsInRange-along _ (parameters_of c.args.fields.now) (search rules) (in_range c.args.fields.now c.requires)
+
+pub overflow_cast-result-6 : goal.overflow_cast-result-6
+overflow_cast-result-6 c = omega (arith, (in_range c.args.fields.now c.requires).scale_high)

@@ -1,6 +1,6 @@
 use Rattle.std.proofs.Common.{◌∙◌, ap, arith}
 use Rattle.hpe_find.specs.Found.{found_of}
-use Rattle.hpe_find.proofs.Offsets.{offset_of-front}
+use Rattle.hpe_base.proofs.MarkerSearch.{offset_of-front}
 use Rattle.hpe_find.proofs.finder.Finder.look.Goals as goal
 
 pub returns-clause-found : goal.returns-clause-found

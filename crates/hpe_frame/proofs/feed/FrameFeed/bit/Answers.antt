@@ -7,7 +7,7 @@ use Rattle.hpe_frame.proofs.feed.FrameFeed.bit.Goals as goal
 
 marker_value : (c : goal.After-bit_of) → c.bit_of.result ≡ get_or (marked c.args.self.now) c.args.i 0
 marker_value c =
-    let marker = c.frame_marker.ensures ∙ ap (λ (f : Feeding). f.parameters.frame_marker) c.self.view_is in
+    let marker = c.frame_marker.ensures.value ∙ ap (λ (f : Feeding). f.parameters.frame_marker) c.self.view_is in
     c.bit_of.ensures.value
     ∙ (ap (λ m. get_or (bits_of 32 m) c.args.i 0) marker
     ∙ marker_bit c.args.self.now.parameters.frame_marker c.args.i (octet_bits c.args.self.now.held) (omega arith))
@@ -26,11 +26,11 @@ octet_value c =
     ∙ (ap (λ o. get_or (bits_of 8 o) ((c.args.i - 32) % 8) 0) read
     ∙ frame_bit c.args.self.now.parameters.frame_marker c.args.self.now.held c.args.i (omega arith) (rw (← held) (omega arith)))
 
-pub returns-then-i-lt-MARKER_BITS-clause-value : goal.returns-then-i-lt-MARKER_BITS-clause-value
-returns-then-i-lt-MARKER_BITS-clause-value c = marker_value c
+pub returns-then-i-lt-FRAME_MARKER_BITS-clause-value : goal.returns-then-i-lt-FRAME_MARKER_BITS-clause-value
+returns-then-i-lt-FRAME_MARKER_BITS-clause-value c = marker_value c
 
-pub returns-then-i-lt-MARKER_BITS-clause-law : goal.returns-then-i-lt-MARKER_BITS-clause-law
-returns-then-i-lt-MARKER_BITS-clause-law c = λ fed was.
+pub returns-then-i-lt-FRAME_MARKER_BITS-clause-law : goal.returns-then-i-lt-FRAME_MARKER_BITS-clause-law
+returns-then-i-lt-FRAME_MARKER_BITS-clause-law c = λ fed was.
     let low : 0 < c.args.self.now.parameters.frame_octets = rw (← c.self.view_is) c.self.invariant.low in
     marker_value c ∙ ap (λ l. get_or l c.args.i 0) (held_bits c.args.self.now fed low c.requires.whole was)
 

@@ -2,7 +2,7 @@ use Rattle.std.proofs.Common.{◌∙◌, ap, sym, subst, drop, option_copied}
 use Rattle.std.specs.Io.KnownBytes.{append_known}
 use Rattle.hpe_base.specs.Parameters.{block_bits}
 use Rattle.hpe_io.specs.Devices.{GrowsByFront}
-use Rattle.hpe_frame.proofs.Growing.{front_after, all_after}
+use Rattle.hpe_io.proofs.Fronts.{front_after, all_after}
 use Rattle.hpe_frame.proofs.Standing.{delivered-push, newly_step, count_step, stands_step}
 use Rattle.hpe_frame.proofs.scan.FrameScan.block.Goals as goal
 

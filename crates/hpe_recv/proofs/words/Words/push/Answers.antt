@@ -1,15 +1,15 @@
 use Rattle.std.proofs.Common.{rules, ◌≡◌, ◌≤◌, ◌<◌, ◌+◌, ◌*◌, ◌%◌, ◌++◌, ◌∷◌, [], ℕ, List, length, ap, sym, subst, ◌∙◌, refl, arith}
-use Rattle.std.proofs.lemmas.List.{append-nil, with_items_is}
+use Rattle.std.proofs.lemmas.List.{append-nil}
 use Rattle.std.proofs.lemmas.List.Elements.{All-push}
-use Rattle.hpe_base.specs.Parameters.{Parameters, positions, codeword_symbols}
-use Rattle.hpe_base.specs.Rounds.{Verdict, verdict_of}
+use Rattle.hpe_base.specs.Parameters.{positions, codeword_symbols}
+use Rattle.hpe_base.specs.Rounds.{verdict_of}
 use Rattle.hpe_recv.specs.Rows.{verdicts_in}
-use Rattle.hpe_recv.specs.Wording.{Wording, HasDecoded, placed, verdict_with}
+use Rattle.hpe_recv.specs.Wording.{Wording, HasGathered, placed}
 use Rattle.hpe_recv.specs.WordsView.{wording}
 use Rattle.hpe_recv.proofs.Groups.{begun}
-use Rattle.hpe_recv.proofs.WordRows.{begun_sums, sums_of, small, placed_one, placed_none, row_put, row_before, length-row_put, room, filled_rows, IsRowPut, row_last, take_none, stands_after, begun_row, begun_word, verdicts_none, verdicts_begun, verdicts_word, word_small}
+use Rattle.hpe_recv.proofs.WordRows.{begun_sums, sums_of, small, placed_one, placed_none, row_put, row_before, with_row, length-row_put, room, filled_rows, IsRowPut, row_last, take_none, stands_after, begun_row, begun_word, verdicts_none, verdicts_begun, verdicts_word, word_small}
 use Rattle.hpe_base.proofs.ParameterLemmas.{codeword_symbols-ge}
-use Rattle.hpe_recv.proofs.words.Words.push.Goals.{After-push, After-symbols, After-deref_mut-2}
+use Rattle.hpe_recv.proofs.words.Words.push.Goals.{After-push, After-symbols, After-self-3-1}
 use Rattle.hpe_recv.proofs.words.Words.push.Goals as goal
 
 -- the row stands in its place, whether it was given or not
@@ -28,7 +28,7 @@ put c =
     }
 
 -- a row that gives none back
-nothing : (c : goal.Then-not-push) (rows : List (List ℕ)) → HasDecoded (wording c.self.inside) rows
+nothing : (c : goal.Then-not-push) (rows : List (List ℕ)) → HasGathered (wording c.self.inside) rows
     → placed c.self.inside.profile (rows ++ c.args.row.now ∷ []) ≡ placed c.self.inside.profile rows ++ []
 nothing c rows h =
     placed_none c.self.inside.profile c.self.inside.unweaver.parameters rows c.args.row.now c.push.new.out c.push.result c.self.invariant.unweaver
@@ -49,17 +49,15 @@ returns-then-not-push-clause-verdicts c = rw (← c.self.view_is) (λ rows h. ve
 pub invariant_of-self : goal.invariant_of-self
 invariant_of-self c = record {
   unweaver = c.push.ensures.profile ∙ c.self.invariant.unweaver;
-  desk = c.self.invariant.desk;
   sums = length-row_put c.self.inside.sums c.deref_mut.result.now c.push.new.out c.self.inside.filled (positions c.self.inside.profile.order) c.slots-positions.result (put (goal.at.invariant_of-self c).After-push)
       ∙ c.self.invariant.sums;
   filled = c.self.invariant.filled;
-  block = c.self.invariant.block;
   rows = c.self.invariant.rows ++ c.args.row.now ∷ [];
-  decoded = returns-then-not-push-clause-stands c c.self.invariant.rows (subst (λ (w : Wording). HasDecoded w c.self.invariant.rows) c.self.view_is c.self.invariant.decoded);
+  gathered = returns-then-not-push-clause-stands c c.self.invariant.rows (subst (λ (w : Wording). HasGathered w c.self.invariant.rows) c.self.view_is c.self.invariant.gathered);
 }
 
 -- a row that gives one back
-gives : (c : After-symbols) (rows : List (List ℕ)) → HasDecoded (wording c.self.inside) rows
+gives : (c : After-symbols) (rows : List (List ℕ)) → HasGathered (wording c.self.inside) rows
     → placed c.self.inside.profile (rows ++ c.args.row.now ∷ []) ≡ placed c.self.inside.profile rows ++ c.push.new.out ∷ []
 gives c rows h =
     placed_one c.self.inside.profile c.self.inside.unweaver.parameters rows c.args.row.now c.push.new.out c.push.result c.self.invariant.unweaver
@@ -70,10 +68,10 @@ symbols : (c : After-symbols) → c.symbols.result ≡ codeword_symbols c.self.i
 symbols c = search rules
 
 -- with it the word isn't whole yet
-begins : (c : goal.Then-self-symbols) (rows : List (List ℕ)) → HasDecoded (wording c.self.inside) rows
+begins : (c : goal.Then-self-symbols) (rows : List (List ℕ)) → HasGathered (wording c.self.inside) rows
     → length (placed c.self.inside.profile rows) % codeword_symbols c.self.inside.profile.order + 1 < codeword_symbols c.self.inside.profile.order
 begins c rows h =
-    let f = filled_rows c.self.inside c.self.invariant c.order.ensures.valid.rows_low rows h in
+    let f = filled_rows c.self.inside c.self.invariant c.order.ensures.valid.range.rows_low rows h in
     let n = symbols (goal.at.returns-then-self-symbols-clause-stands c).After-symbols in
     omega (arith, c.if-self-symbols.true)
 
@@ -92,68 +90,60 @@ returns-then-self-symbols-clause-verdicts c = rw (← c.self.view_is) (λ rows h
 pub invariant_of-self-then-self-symbols : goal.invariant_of-self-then-self-symbols
 invariant_of-self-then-self-symbols c = record {
   unweaver = c.push.ensures.profile ∙ c.self.invariant.unweaver;
-  desk = c.self.invariant.desk;
   sums = length-row_put c.self.inside.sums c.deref_mut.result.now c.push.new.out c.self.inside.filled (positions c.self.inside.profile.order) c.slots-positions.result (put (goal.at.invariant_of-self-then-self-symbols c).After-push)
       ∙ c.self.invariant.sums;
   filled = search rules;
-  block = c.self.invariant.block;
   rows = c.self.invariant.rows ++ c.args.row.now ∷ [];
-  decoded = returns-then-self-symbols-clause-stands c c.self.invariant.rows (subst (λ (w : Wording). HasDecoded w c.self.invariant.rows) c.self.view_is c.self.invariant.decoded);
+  gathered = returns-then-self-symbols-clause-stands c c.self.invariant.rows (subst (λ (w : Wording). HasGathered w c.self.invariant.rows) c.self.view_is c.self.invariant.gathered);
 }
 
 -- with it the word is whole
-whole : (c : After-deref_mut-2) → codeword_symbols c.self.inside.profile.order ≤ c.self.inside.filled + 1
+whole : (c : After-self-3-1) → codeword_symbols c.self.inside.profile.order ≤ c.self.inside.filled + 1
 whole c =
-    let n = symbols (goal.at.decode-requires-clause-most c).After-symbols in
+    let n = symbols (goal.at.returns-clause-small c).After-symbols in
     omega (arith, c.if-self-symbols.false)
 
-ends : (c : After-deref_mut-2) (rows : List (List ℕ)) → HasDecoded (wording c.self.inside) rows
+ends : (c : After-self-3-1) (rows : List (List ℕ)) → HasGathered (wording c.self.inside) rows
     → length (placed c.self.inside.profile rows) % codeword_symbols c.self.inside.profile.order + 1 ≡ codeword_symbols c.self.inside.profile.order
 ends c rows h =
-    let f = filled_rows c.self.inside c.self.invariant c.order.ensures.valid.rows_low rows h in
+    let f = filled_rows c.self.inside c.self.invariant c.order.ensures.valid.range.rows_low rows h in
     omega (arith, whole c, c.self.invariant.filled)
 
--- the sums of the word that is decoded
-word : (c : After-deref_mut-2) (rows : List (List ℕ)) → HasDecoded (wording c.self.inside) rows → c.deref.result.now ≡ begun_sums c.self.inside.profile rows ++ c.push.new.out
+-- the list with the row, which are the sums of the word
+word : (c : After-self-3-1) (rows : List (List ℕ)) → HasGathered (wording c.self.inside) rows
+    → (with_row c.self.inside.sums c.deref_mut.result.now c.push.new.out c.self.inside.filled c.slots-positions.result).items ≡ begun_sums c.self.inside.profile rows ++ c.push.new.out
 word c rows h =
     let p = c.self.inside.profile in
-    c.deref.ensures.value
-    ∙ row_last c.self.inside.sums c.deref_mut.result.now c.push.new.out c.self.inside.filled (codeword_symbols p.order) (positions p.order) c.slots-positions.result
-    (put (goal.at.decode-requires-clause-most c).After-push) c.self.invariant.sums (whole c)
+    row_last c.self.inside.sums c.deref_mut.result.now c.push.new.out c.self.inside.filled (codeword_symbols p.order) (positions p.order) c.slots-positions.result
+    (put (goal.at.returns-clause-small c).After-push) c.self.invariant.sums (whole c)
     ∙ ap (λ (s : List ℕ). s ++ c.push.new.out) h.sums
 
-pub decode-requires-clause-most : goal.decode-requires-clause-most
-decode-requires-clause-most c =
+pub returns-clause-small : goal.returns-clause-small
+returns-clause-small c = λ _.
     let rows = c.self.invariant.rows in
-    let h = c.self.invariant.decoded in
-    word_small c.self.inside.profile rows c.args.row.now c.push.new.out c.deref.result.now c.order.ensures.valid.rows_low
-    (All-push (λ (r : List ℕ). small r) rows c.args.row.now h.small c.requires.most) (gives (goal.at.decode-requires-clause-most c).After-symbols rows h) (word c rows h)
+    let h = c.self.invariant.gathered in
+    word_small c.self.inside.profile rows c.args.row.now c.push.new.out _ c.order.ensures.valid.range.rows_low
+    (All-push (λ (r : List ℕ). small r) rows c.args.row.now h.small c.requires.most) (gives (goal.at.returns-clause-small c).After-symbols rows h) (word c rows h)
 
 pub returns-clause-stands : goal.returns-clause-stands
 returns-clause-stands c = rw (← c.self.view_is) (λ rows h.
     let p = c.self.inside.profile in
     stands_after (wording c.self.inside) _ rows c.args.row.now refl (c.push.ensures.stands rows h.unwoven)
-    (take_none (positions p.order) _ ∙ begun_word p rows c.args.row.now c.push.new.out (gives (goal.at.returns-clause-stands c).After-symbols rows h) (ends (goal.at.returns-clause-stands c).After-deref_mut-2 rows h))
+    (take_none (positions p.order) _ ∙ begun_word p rows c.args.row.now c.push.new.out (gives (goal.at.returns-clause-stands c).After-symbols rows h) (ends c rows h))
     c.requires.most h)
 
 pub returns-clause-verdicts : goal.returns-clause-verdicts
 returns-clause-verdicts c = rw (← c.self.view_is) (λ rows h.
     let p = c.self.inside.profile in
-    let block = with_items_is c.self.inside.block c.decode.new.block (c.decode.ensures.size ∙ c.deref_mut-2.ensures.len) in
-    verdicts_word p rows c.args.row.now c.push.new.out (gives (goal.at.returns-clause-verdicts c).After-symbols rows h) (ends (goal.at.returns-clause-verdicts c).After-deref_mut-2 rows h)
-    ∙ ap (λ (v : Verdict). verdicts_in p rows ++ v ∷ [])
-    (ap (λ (s : List ℕ). verdict_of p s) (sym (word (goal.at.returns-clause-verdicts c).After-deref_mut-2 rows h)) ∙ ap (λ (q : Parameters). verdict_of q c.deref.result.now) (sym c.self.invariant.desk)
-    ∙ c.decode.ensures.verdict ∙ ap (λ (b : List ℕ). verdict_with c.decode.result b) (sym block)))
+    verdicts_word p rows c.args.row.now c.push.new.out (gives (goal.at.returns-clause-verdicts c).After-symbols rows h) (ends c rows h)
+    ∙ ap (λ (s : List ℕ). verdicts_in p rows ++ verdict_of p s ∷ []) (sym (word c rows h)))
 
 pub invariant_of-self-2 : goal.invariant_of-self-2
 invariant_of-self-2 c = record {
   unweaver = c.push.ensures.profile ∙ c.self.invariant.unweaver;
-  desk = c.decode.ensures.desk ∙ c.self.invariant.desk;
   sums = length-row_put c.self.inside.sums c.deref_mut.result.now c.push.new.out c.self.inside.filled (positions c.self.inside.profile.order) c.slots-positions.result (put (goal.at.invariant_of-self-2 c).After-push)
       ∙ c.self.invariant.sums;
   filled = omega (arith, codeword_symbols-ge c.self.inside.profile.order);
-  block = ap (λ (b : List ℕ). length b) (with_items_is c.self.inside.block c.decode.new.block (c.decode.ensures.size ∙ c.deref_mut-2.ensures.len))
-      ∙ c.decode.ensures.size ∙ ap (λ (b : List ℕ). length b) c.deref_mut-2.ensures.value ∙ c.self.invariant.block;
   rows = c.self.invariant.rows ++ c.args.row.now ∷ [];
-  decoded = returns-clause-stands c c.self.invariant.rows (subst (λ (w : Wording). HasDecoded w c.self.invariant.rows) c.self.view_is c.self.invariant.decoded);
+  gathered = returns-clause-stands c c.self.invariant.rows (subst (λ (w : Wording). HasGathered w c.self.invariant.rows) c.self.view_is c.self.invariant.gathered);
 }

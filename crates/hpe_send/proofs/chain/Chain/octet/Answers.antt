@@ -18,11 +18,11 @@ stream g c fed start now h =
     let p : Parameters = c.self.inside.coder.parameters in
     let same : c.feed.new.self.parameters ≡ p = c.feed.ensures.profile ∙ c.self.invariant.feed in
     let ends : (length fed + 1) % p.frame_octets ≡ 0 = rw c.self.invariant.feed at ((c.feed.ensures.completes fed h.fed).0 c.if-feed.true) in
-    let low : 0 < c.feed.new.self.parameters.frame_octets = rw same h.pushed.coded.valid.frame_low in
+    let low : 0 < c.feed.new.self.parameters.frame_octets = rw same h.pushed.coded.valid.range.frame_low in
     let last : marked c.feed.new.self ≡ frame_bits p (fed ++ c.args.octet ∷ []) (length (fed ++ c.args.octet ∷ []) / p.frame_octets - 1) =
     held_bits c.feed.new.self (fed ++ c.args.octet ∷ []) low (c.feed.ensures.whole.0 c.if-feed.true) (c.feed.ensures.stands fed h.fed)
     ∙ ap (λ (q : Parameters). frame_bits q (fed ++ c.args.octet ∷ []) (length (fed ++ c.args.octet ∷ []) / q.frame_octets - 1)) same in
-    ap (λ (l : List ℕ). bit_stream p fed ++ l) last ∙ stream_more p fed c.args.octet h.pushed.coded.valid.frame_low ends
+    ap (λ (l : List ℕ). bit_stream p fed ++ l) last ∙ stream_more p fed c.args.octet h.pushed.coded.valid.range.frame_low ends
 
 pub returns-then-feed-clause-ok : goal.returns-then-feed-clause-ok
 returns-then-feed-clause-ok g c = rw (← c.self.view_is) (λ fed start h.
@@ -40,5 +40,5 @@ pub returns-else-feed-clause-ok : goal.returns-else-feed-clause-ok
 returns-else-feed-clause-ok g c = rw (← c.self.view_is) (λ fed start h.
     let p : Parameters = c.self.inside.coder.parameters in
     let none : (length fed + 1) % p.frame_octets ≢ 0 = rw c.self.invariant.feed at (refuted c.feed.result _ c.if-feed.false (c.feed.ensures.completes fed h.fed)) in
-    taken_more _ p (bit_stream p fed) (fed ++ c.args.octet ∷ []) start _ refl (stream_same p fed c.args.octet h.pushed.coded.valid.frame_low none)
+    taken_more _ p (bit_stream p fed) (fed ++ c.args.octet ∷ []) start _ refl (stream_same p fed c.args.octet h.pushed.coded.valid.range.frame_low none)
     (c.feed.ensures.stands fed h.fed) (record { sliced = h.pushed.sliced; coded = h.pushed.coded }))

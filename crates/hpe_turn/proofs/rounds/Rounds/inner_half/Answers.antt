@@ -1,8 +1,8 @@
-use Rattle.std.proofs.Common.{◌≡◌, ◌<◌, ◌-ℤ◌, ◌∙◌, arith, ℕ, ℤ, List, length, sym, subst, ap₂}
+use Rattle.std.proofs.Common.{◌≡◌, ◌<◌, ◌-ℤ◌, ◌∙◌, arith, ℕ, ℤ, List, length, sym, subst, ap, ap₂}
 use Rattle.hpe_base.specs.Sizes.{number_at, AllWithin}
 use Rattle.hpe_base.specs.Parameters.{codeword_bits}
 use Rattle.hpe_base.specs.CodeInterleaver.{IsInterleaved}
-use Rattle.hpe_base.specs.SoftValues.{clamped, inner_soft_value}
+use Rattle.hpe_base.specs.SoftValues.{clamped, scaled, inner_soft_value}
 use Rattle.hpe_base.specs.declared.profile.Order.{Order}
 use Rattle.hpe_turn.proofs.Halves.{whole_taken, outer_numbers-is, outer_numbers-within}
 use Rattle.hpe_turn.proofs.rounds.Rounds.inner_half.Goals as goal
@@ -21,9 +21,10 @@ returns-clause-numbers g c =
     let soft_is : (j : ℕ) → j < codeword_bits → number_at soft j ≡ inner_soft_value p.order counts given j =
     λ j h. c.inner_soft.ensures.soft j (omega arith)
     ∙ ap₂ (λ (o : Order) (xs : List ℤ). inner_soft_value o counts xs j) c.order.ensures.value c.deref.ensures.value in
-    let value : (j : ℕ) → j < length added → number_at added j ≡ clamped (number_at soft j -ℤ number_at given j) =
+    let value : (j : ℕ) → j < length added → number_at added j ≡ scaled lists.profile.scale (clamped (number_at soft j -ℤ number_at given j)) =
     λ j h. c.extrinsic.ensures.value j (omega arith)
-    ∙ ap₂ (λ (xs ys : List ℤ). clamped (number_at xs j -ℤ number_at ys j)) soft_lent c.deref-3.ensures.value in
+    ∙ ap (λ (s : ℕ). scaled s (clamped (number_at c.deref-2.result.now j -ℤ number_at c.deref-3.result.now j))) c.scale-scale.ensures.value
+    ∙ ap₂ (λ (xs ys : List ℤ). scaled lists.profile.scale (clamped (number_at xs j -ℤ number_at ys j))) soft_lent c.deref-3.ensures.value in
     let moves : IsInterleaved moved added = subst (λ (xs : List ℤ). IsInterleaved moved xs) lent c.deinterleave.ensures in
     whole_taken lists.outer_numbers.len c.widen.new.into _ (omega arith)
     ∙ c.widen.ensures.value
@@ -34,4 +35,4 @@ returns-clause-numbers g c =
 pub returns-clause-small : goal.returns-clause-small
 returns-clause-small g c =
     subst (AllWithin 16383) (sym (returns-clause-numbers g c))
-    (outer_numbers-within c.args.self.now.profile c.args.counts.now c.args.self.now.inner_numbers.items)
+    (outer_numbers-within c.args.self.now.profile c.args.counts.now c.args.self.now.inner_numbers.items c.args.self.now.valid.range.scale_high)

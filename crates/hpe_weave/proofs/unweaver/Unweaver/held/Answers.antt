@@ -1,4 +1,5 @@
-use Rattle.std.proofs.Common.{◌≡◌, ◌≤◌, ◌<◌, ◌+◌, ◌*◌, ◌^◌, ℕ, List, length, get_or, ap, ◌∙◌, arith}
+use Rattle.std.proofs.Common.{◌≡◌, ◌≤◌, ◌<◌, ◌+◌, ◌*◌, ◌^◌, ℕ, List, length, get_or, ap, ◌∙◌, arith, sum_by}
+use Rattle.std.proofs.lemmas.List.{take_all}
 use Rattle.circular_buffer.specs.Buffer.{Buffer}
 use Rattle.hpe_base.specs.Parameters.{positions}
 use Rattle.hpe_weave.specs.Unweaving.{Unweaving, HasUnwoven, held_after, held_turns}
@@ -37,3 +38,12 @@ returns-clause-value c = value c
 
 pub returns-clause-most : goal.returns-clause-most
 returns-clause-most c = λ pushed was. held-most c.args.self.now.parameters (length pushed) c.loop-ring.sums (value c pushed was)
+
+-- all rings were counted
+pub returns-clause-rings : goal.returns-clause-rings
+returns-clause-rings c =
+    let view : c.self.inside.rings.items ≡ c.args.self.now.rings = ap (λ (u : Unweaving). u.rings) c.self.view_is in
+    let items : c.deref-ring-items.result.now ≡ c.self.inside.rings.items = c.deref-ring-items.ensures.value in
+    let size : length c.deref-ring-items.result.now ≡ length c.args.self.now.rings = ap (λ (l : List (Buffer ℕ)). length l) (items ∙ view) in
+    let all : length c.args.self.now.rings ≤ c.loop-ring.ring-index = omega (arith, c.loop-ring-test.false) in
+    c.loop-ring.invariant.0 ∙ ap (λ (l : List (Buffer ℕ)). sum_by (λ ring. length ring.items) l) (take_all c.loop-ring.ring-index c.args.self.now.rings all)

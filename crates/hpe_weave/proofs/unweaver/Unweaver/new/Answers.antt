@@ -19,7 +19,7 @@ pub overflow_mul-rows-in-loop-row : goal.overflow_mul-rows-in-loop-row
 overflow_mul-rows-in-loop-row c =
     let valid : IsValid c.args.p.now = c.rows-rows.ensures.valid in
     let p = c.args.p.now in
-    let high : held_turns p (c.loop-row.row - 1) * positions p.order ≤ 2 ^ 26 = room-le p (c.loop-row.row - 1) valid.rows_low valid.depth in
+    let high : held_turns p (c.loop-row.row - 1) * positions p.order ≤ 2 ^ 26 = room-le p (c.loop-row.row - 1) valid.range.rows_low valid.depth in
     let low : 1 ≤ c.loop-row.row = c.loop-row.auto.row in
     let same : p.rows - 1 - (c.loop-row.row - 1) ≡ p.rows - c.loop-row.row = omega arith in
     let turned : held_turns p (c.loop-row.row - 1) * positions p.order ≡ (p.rows - c.loop-row.row) * p.delay * positions p.order = ap (λ (k : ℕ). k * p.delay * positions p.order) same in
@@ -37,7 +37,7 @@ loop-row-preserved c =
 made : (c : goal.After-copy) → AreMadeEmpty c.copy.result c.copy.result.rows c.loop-row.rings.items
 made c =
     let value : c.rows-rows.result ≡ c.args.p.now.rows = c.rows-rows.ensures.value in
-    let low : 1 ≤ c.args.p.now.rows = c.rows-rows.ensures.valid.rows_low in
+    let low : 1 ≤ c.args.p.now.rows = c.rows-rows.ensures.valid.range.rows_low in
     let end : c.loop-row.row ≡ c.args.p.now.rows = omega arith in
     rw c.copy.ensures (subst (λ (n : ℕ). AreMadeEmpty c.args.p.now n c.loop-row.rings.items) end c.loop-row.invariant)
 
@@ -51,4 +51,4 @@ returns-clause-stands c =
     let delay : c.delay-delay.result ≡ c.args.p.now.delay = c.delay-delay.ensures.value in
     let depth : c.rows-rows.result * (c.rows-rows.result - 1) * c.delay-delay.result ≡ interleaver_depth c.copy.result =
     (λ i. rows i * (rows i - 1) * delay i) ∙ sym (ap interleaver_depth c.copy.ensures) in
-    made_unwoven c.copy.result c.loop-row.rings.items _ (rw c.copy.ensures c.rows-rows.ensures.valid.rows_low) depth (made c)
+    made_unwoven c.copy.result c.loop-row.rings.items _ (rw c.copy.ensures c.rows-rows.ensures.valid.range.rows_low) depth (made c)

@@ -13,8 +13,8 @@ ring c d = get_or_read c.self.inside.rings.items c.self.inside.turn c.index_mut.
 pub invariant_of-self : goal.invariant_of-self
 invariant_of-self c =
     let i = c.self.invariant in
-    let next : c.row_after-self-inside.result < c.self.inside.profile.rows = omega (arith, c.row_after-self-inside.ensures.within, i.count) in
-    capacity_kept c.self.inside.profile c.self.inside.rings.items c.pass.new.ring c.self.inside.turn c.row_after-self-inside.result c.self.inside.wait c.saturating_sub-self-inside.result
+    let next : c.place_after-self-inside.result < c.self.inside.profile.rows = omega (arith, c.place_after-self-inside.ensures.within, i.count) in
+    capacity_kept c.self.inside.profile c.self.inside.rings.items c.pass.new.ring c.self.inside.turn c.place_after-self-inside.result c.self.inside.wait c.saturating_sub-self-inside.result
     next (omega arith) (λ d. ap (λ (b : Buffer ℕ). b.capacity) (c.pass.ensures.items) ∙ ap (λ (b : Buffer ℕ). b.capacity) (ring c d)) i
 
 pub returns-then-row-len-clause-stands : goal.returns-then-row-len-clause-stands
@@ -27,8 +27,8 @@ returns-then-row-len-clause-stands c = λ g was.
     let out : length c.args.out.now ≡ positions c.self.inside.profile.order = c.requires.out ∙ sym v in
     let counts : length c.args.counts.now ≡ positions c.self.inside.profile.order = c.requires.counts ∙ sym v in
     let b = c.pass.new.ring in
-    unstep p c.self.inside.rings.items (set c.self.inside.rings.items t c.pass.new.ring) t c.row_after-self-inside.result c.self.inside.wait c.saturating_sub-self-inside.result g c.args.counts.now
-    (c.row_after-self-inside.ensures.value ∙ (let n : c.len.result + 1 ≡ c.self.inside.profile.rows = omega (arith, i.count) in ap (λ (k : ℕ). (c.self.inside.turn + 1) % k) n)) c.saturating_sub-self-inside.ensures counts
+    unstep p c.self.inside.rings.items (set c.self.inside.rings.items t c.pass.new.ring) t c.place_after-self-inside.result c.self.inside.wait c.saturating_sub-self-inside.result g c.args.counts.now
+    (c.place_after-self-inside.ensures.value ∙ (let n : c.len.result + 1 ≡ c.self.inside.profile.rows = omega (arith, i.count) in ap (λ (k : ℕ). (c.self.inside.turn + 1) % k) n)) c.saturating_sub-self-inside.ensures counts
     (λ j d ne. get_or-set_other c.self.inside.rings.items t j c.pass.new.ring d ne)
     (λ d more. ap (λ (b : Buffer ℕ). b.items) (get_or-set_same c.self.inside.rings.items t c.pass.new.ring d (omega arith) ∙ c.pass.ensures.items)
     ∙ (let cap : c.index_mut.result.now.capacity ≡ held_turns c.self.inside.profile c.self.inside.turn * positions c.self.inside.profile.order = ap (λ (z : Buffer ℕ). z.capacity) (ring c b) ∙ i.capacity t b more in
@@ -58,8 +58,8 @@ returns-then-due-clause-stands c = λ g was.
     let h = rw (← c.self.view_is) at was in
     let p = c.self.inside.profile in
     let v = ap (λ (u : Unweaving). positions u.parameters.order) c.self.view_is in
-    unstep p c.self.inside.rings.items c.self.inside.rings.items c.self.inside.turn c.row_after-self-inside.result c.self.inside.wait c.saturating_sub-self-inside.result g c.args.counts.now
-    (c.row_after-self-inside.ensures.value ∙ (let n : c.len.result + 1 ≡ c.self.inside.profile.rows = omega (arith, i.count) in ap (λ (k : ℕ). (c.self.inside.turn + 1) % k) n)) c.saturating_sub-self-inside.ensures (c.requires.counts ∙ sym v) (λ j d ne. refl) (λ d more. absurd (omega arith)) h
+    unstep p c.self.inside.rings.items c.self.inside.rings.items c.self.inside.turn c.place_after-self-inside.result c.self.inside.wait c.saturating_sub-self-inside.result g c.args.counts.now
+    (c.place_after-self-inside.ensures.value ∙ (let n : c.len.result + 1 ≡ c.self.inside.profile.rows = omega (arith, i.count) in ap (λ (k : ℕ). (c.self.inside.turn + 1) % k) n)) c.saturating_sub-self-inside.ensures (c.requires.counts ∙ sym v) (λ j d ne. refl) (λ d more. absurd (omega arith)) h
 
 pub returns-then-due-clause-rows : goal.returns-then-due-clause-rows
 returns-then-due-clause-rows c = λ g was.
@@ -76,8 +76,8 @@ returns-else-due-clause-stands c = λ g was.
     let h = rw (← c.self.view_is) at was in
     let p = c.self.inside.profile in
     let v = ap (λ (u : Unweaving). positions u.parameters.order) c.self.view_is in
-    unstep p c.self.inside.rings.items c.self.inside.rings.items c.self.inside.turn c.row_after-self-inside.result c.self.inside.wait c.saturating_sub-self-inside.result g c.args.counts.now
-    (c.row_after-self-inside.ensures.value ∙ (let n : c.len.result + 1 ≡ c.self.inside.profile.rows = omega (arith, i.count) in ap (λ (k : ℕ). (c.self.inside.turn + 1) % k) n)) c.saturating_sub-self-inside.ensures (c.requires.counts ∙ sym v) (λ j d ne. refl) (λ d more. absurd (omega arith)) h
+    unstep p c.self.inside.rings.items c.self.inside.rings.items c.self.inside.turn c.place_after-self-inside.result c.self.inside.wait c.saturating_sub-self-inside.result g c.args.counts.now
+    (c.place_after-self-inside.ensures.value ∙ (let n : c.len.result + 1 ≡ c.self.inside.profile.rows = omega (arith, i.count) in ap (λ (k : ℕ). (c.self.inside.turn + 1) % k) n)) c.saturating_sub-self-inside.ensures (c.requires.counts ∙ sym v) (λ j d ne. refl) (λ d more. absurd (omega arith)) h
 
 pub returns-else-due-clause-rows : goal.returns-else-due-clause-rows
 returns-else-due-clause-rows c = λ g was.

@@ -14,7 +14,7 @@ loop-row-preserved c =
 
 made : (c : goal.After-copy) → AreMade c.copy.result.delay c.copy.result.rows c.loop-row.rings.items
 made c =
-    let low = c.rows-rows.ensures.valid.rows_low in
+    let low = c.rows-rows.ensures.valid.range.rows_low in
     let value = c.rows-rows.ensures.value in
     let d : c.copy.result.delay ≡ c.delay-delay.result = ap (λ (p : Parameters). p.delay) c.copy.ensures ∙ sym c.delay-delay.ensures.value in
     let end : c.loop-row.row ≡ c.rows-rows.result = omega arith in
@@ -22,7 +22,7 @@ made c =
     rw (d, r) c.loop-row.invariant
 
 low-rows : (c : goal.After-copy) → 1 ≤ c.copy.result.rows
-low-rows c = rw c.copy.ensures c.rows-rows.ensures.valid.rows_low
+low-rows c = rw c.copy.ensures c.rows-rows.ensures.valid.range.rows_low
 
 pub invariant_of-result : goal.invariant_of-result
 invariant_of-result c = made_weaving c.copy.result c.loop-row.rings.items (low-rows c) (made c)

@@ -10,7 +10,7 @@ use Rattle.hpe_weave.proofs.weaver.Weaver.push.Goals as goal
 pub returns-then-row-eq0-clause-stands : goal.returns-then-row-eq0-clause-stands
 returns-then-row-eq0-clause-stands c = λ s was.
     let i = c.self.invariant in
-    step_straight c.self.inside.profile c.self.inside.rings.items c.self.inside.turn c.row_after-self-inside.result c.args.symbol s c.if-row-eq0.true (omega arith) (c.row_after-self-inside.ensures.value ∙ (let n : c.len.result + 1 ≡ c.self.inside.profile.rows = omega (arith, i.count) in ap (λ (k : ℕ). (c.self.inside.turn + 1) % k) n))
+    step_straight c.self.inside.profile c.self.inside.rings.items c.self.inside.turn c.place_after-self-inside.result c.args.symbol s c.if-row-eq0.true (omega arith) (c.place_after-self-inside.ensures.value ∙ (let n : c.len.result + 1 ≡ c.self.inside.profile.rows = omega (arith, i.count) in ap (λ (k : ℕ). (c.self.inside.turn + 1) % k) n))
     (rw (← c.self.view_is) at was)
 
 pub returns-then-row-eq0-clause-answer : goal.returns-then-row-eq0-clause-answer
@@ -23,11 +23,11 @@ returns-then-row-eq0-clause-answer c = λ s was.
     rw (← v) (channel_more c.self.inside.profile s c.args.symbol ∙ ap (λ (y : ℕ). interleaved_channel c.self.inside.profile s ++ y ∷ []) (sym x))
 
 stepped : (c : goal.After-self-else-row-eq0-1) (s : List ℕ) → HasWoven c.args.self.now s
-    → Stepped c.self.inside.profile (set c.self.inside.rings.items (c.self.inside.turn - 1) c.through.new.ring) c.row_after-self-inside.result c.args.symbol c.through.result s
+    → Stepped c.self.inside.profile (set c.self.inside.rings.items (c.self.inside.turn - 1) c.through.new.ring) c.place_after-self-inside.result c.args.symbol c.through.result s
 stepped c s was =
     let i = c.self.invariant in
-    step_ring c.self.inside.profile c.self.inside.rings.items c.through.new.ring c.self.inside.turn c.row_after-self-inside.result c.args.symbol c.through.result s
-    (omega arith) i.turn_in i.count (c.row_after-self-inside.ensures.value ∙ (let n : c.len.result + 1 ≡ c.self.inside.profile.rows = omega (arith, i.count) in ap (λ (k : ℕ). (c.self.inside.turn + 1) % k) n)) (c.through.ensures.items ∙ ap (λ (b : Buffer ℕ). b.items ++ c.args.symbol ∷ [])
+    step_ring c.self.inside.profile c.self.inside.rings.items c.through.new.ring c.self.inside.turn c.place_after-self-inside.result c.args.symbol c.through.result s
+    (omega arith) i.turn_in i.count (c.place_after-self-inside.ensures.value ∙ (let n : c.len.result + 1 ≡ c.self.inside.profile.rows = omega (arith, i.count) in ap (λ (k : ℕ). (c.self.inside.turn + 1) % k) n)) (c.through.ensures.items ∙ ap (λ (b : Buffer ℕ). b.items ++ c.args.symbol ∷ [])
     (get_or_read c.self.inside.rings.items (c.self.inside.turn - 1) c.index_mut.result.now (omega arith) c.index_mut.ensures.value c.through.new.ring)) (rw (← c.self.view_is) at was)
 
 pub returns-else-row-eq0-clause-stands : goal.returns-else-row-eq0-clause-stands

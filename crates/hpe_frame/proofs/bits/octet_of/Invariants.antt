@@ -1,6 +1,0 @@
-use Rattle.std.proofs.Common.{◌≡◌, ◌<◌, ◌^◌, take}
-use Rattle.hpe_base.specs.Bits.{number_of}
-use Rattle.hpe_frame.proofs.bits.octet_of.Given as goal
-
-abbrev pub invariant-loop-bit : goal.invariant-loop-bit
-invariant-loop-bit l = (l.octet ≡ number_of (take l.bit-index l.bits)) × (l.octet < 2 ^ l.bit-index)

@@ -1,0 +1,13 @@
+use Rattle.std.proofs.Common.{◌≡◌, ℕ, ◌-◌, ◌^◌, ◌<◌}
+use Rattle.hpe_base.specs.Greatest.{IsSoft}
+use Rattle.hpe_base.specs.Sizes.{number_at}
+use Rattle.hpe_lane.specs.Edges.{input_bit}
+use Rattle.hpe_lane.specs.Folds.{Folded}
+use Rattle.hpe_lane.proofs.fold.fold_turns.Given as goal
+
+abbrev pub invariant-loop-i : goal.invariant-loop-i
+invariant-loop-i l = record {
+  size : l.size ≡ 2 ^ (l.fn.m - l.i);
+  folded : Folded (l.fn.m) l.i (l.fn.m - l.i) l.initial.scores l.scores;
+  soft : (i : ℕ) → i < l.i → IsSoft (λ (v : ℕ). v < 2 ^ l.fn.m) (input_bit (l.fn.m) i 0) (number_at l.initial.scores) (number_at l.out i);
+}

@@ -1,0 +1,9 @@
+use Rattle.std.proofs.Common.{◌≡◌, ℕ, ◌<◌, ◌≤◌, ◌+ℤ◌, pos, get_or}
+use Rattle.hpe_base.specs.Sizes.{number_at}
+use Rattle.hpe_lane.proofs.plain.add_counts.Given as goal
+
+abbrev pub invariant-loop-v : goal.invariant-loop-v
+invariant-loop-v l = record {
+  done : (v : ℕ) → v < l.v → number_at l.scores v ≡ pos (get_or l.counts v 0) +ℤ number_at l.initial.scores v;
+  rest : (v : ℕ) → l.v ≤ v → number_at l.scores v ≡ number_at l.initial.scores v;
+}
