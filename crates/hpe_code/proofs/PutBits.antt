@@ -1,42 +1,9 @@
 -- The bits whose flag is set, place by place.
-use Rattle.std.proofs.Common.{◌≡◌, ◌++◌, ◌+◌, ◌<◌, ◌≤◌, ℕ, List, [], ◌∷◌, length, get_or, take, sym, ◌∙◌, ap, arith, zero, suc, Bool, true, false, cond, append_assoc, length-append, append-nil}
+use Rattle.std.proofs.Common.{◌≡◌, ◌++◌, ◌+◌, ◌<◌, ◌≤◌, ℕ, List, [], ◌∷◌, length, get_or, take, ◌∙◌, ap, arith, suc, Bool, true, false, append_assoc, length-append}
 use Rattle.std.proofs.Math.Seq.{take-suc-set}
 use Rattle.std.proofs.Math.ListN.{set}
 use Rattle.hpe_base.specs.ConvolutionalCode.{selected}
-
--- the bits of one place
-abbrev one : Bool → ℕ → List ℕ
-one flag bit = cond flag (bit ∷ []) []
-
--- one more place
-selected-more : (flags : List Bool) (bits : List ℕ) (i : ℕ) → i < length flags → i < length bits →
-    selected (take (i + 1) flags) (take (i + 1) bits) ≡ selected (take i flags) (take i bits) ++ one (get_or flags i false) (get_or bits i 0)
-selected-more [] bits i h k = absurd (omega arith)
-selected-more (f ∷ fs) [] i h k = absurd (omega arith)
-selected-more (f ∷ fs) (b ∷ bs) zero h k = append-nil (one f b)
-selected-more (f ∷ fs) (b ∷ bs) (suc i) h k =
-    let e : suc i + 1 ≡ suc (i + 1) = omega arith in
-    let ih : selected (take (i + 1) fs) (take (i + 1) bs) ≡ selected (take i fs) (take i bs) ++ one (get_or fs i false) (get_or bs i 0) = selected-more fs bs i (omega arith) (omega arith) in
-    rw (e, ih) (sym (append_assoc (one f b) (selected (take i fs) (take i bs)) _))
-
--- the first places give no more than all
-length-selected-le : (flags : List Bool) (bits : List ℕ) (i : ℕ) → length (selected (take i flags) (take i bits)) ≤ length (selected flags bits)
-length-selected-le flags bits zero = omega arith
-length-selected-le [] bits (suc i) = omega arith
-length-selected-le (f ∷ fs) [] (suc i) = omega arith
-length-selected-le (f ∷ fs) (b ∷ bs) (suc i) =
-    omega (arith, length-selected-le fs bs i, length-append (one f b) (selected (take i fs) (take i bs)), length-append (one f b) (selected fs bs))
-
--- one more place whose flag is set
-selected-set : (flags : List Bool) (bits : List ℕ) (i : ℕ) → i < length flags → i < length bits → get_or flags i false ≡ true →
-    selected (take (i + 1) flags) (take (i + 1) bits) ≡ selected (take i flags) (take i bits) ++ get_or bits i 0 ∷ []
-selected-set flags bits i h k e = selected-more flags bits i h k ∙ ap (λ f. selected (take i flags) (take i bits) ++ one f (get_or bits i 0)) e
-
--- one more place whose flag is not set
-selected-unset : (flags : List Bool) (bits : List ℕ) (i : ℕ) → i < length flags → i < length bits → get_or flags i false ≡ false →
-    selected (take (i + 1) flags) (take (i + 1) bits) ≡ selected (take i flags) (take i bits)
-selected-unset flags bits i h k e =
-    selected-more flags bits i h k ∙ (ap (λ f. selected (take i flags) (take i bits) ++ one f (get_or bits i 0)) e ∙ append-nil _)
+use Rattle.hpe_base.proofs.Selected.{length-selected-le, selected-set, selected-unset}
 
 -- what is written once the first i flags are done
 abbrev pub PutSoFar : List Bool → List ℕ → List ℕ → ℕ → ℕ → ℕ → List ℕ → Type 0
