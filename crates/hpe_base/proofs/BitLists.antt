@@ -4,7 +4,7 @@ use Rattle.std.specs.Int.{bit_at}
 use Rattle.std.proofs.lemmas.Nat.{mod-pow-add, div-add-mod', xor_lt}
 use Rattle.std.proofs.lemmas.Nat.Bits.{bit_at_xor, bit_at_cat_low, bit_at-suc, bit_at-lt, bit_at_lowest, shr_and_one}
 use Rattle.std.proofs.lemmas.Bool.{cases_lt}
-use Rattle.std.proofs.lemmas.List.{length-replicate, get_or-replicate, get_or_past}
+use Rattle.std.proofs.lemmas.List.{length-replicate, get_or-replicate, get_or_past, replicate-append-replicate}
 use Rattle.std.proofs.lemmas.List.Elements.{All-append}
 use Rattle.hpe_base.specs.Lists.{joined}
 use Rattle.hpe_base.specs.Bits.{bits_of, octet_bits, number_of, xor, AreBits, zeros}
@@ -159,3 +159,8 @@ get_or-zeros n k =
       | inl h ↦ get_or-replicate n k 0 0 h
       | inr h ↦ get_or_past (zeros n) k 0 (omega (arith, length-zeros n))
     ]
+
+-- zeros and zeros are zeros
+pub zeros-append : (a b : ℕ) → zeros a ++ zeros b ≡ zeros (a + b)
+unfolding zeros
+zeros-append a b = replicate-append-replicate a b 0

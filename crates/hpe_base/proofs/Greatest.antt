@@ -1,9 +1,10 @@
 -- Laws of the greatest score.
-use Rattle.std.proofs.Common.{◌≡◌, ℕ, ◌+◌, ◌<◌, ◌⊎◌, inl, inr, ⊎_elim, sym, ◌∙◌, subst, arith, ℤ, ◌+ℤ◌, ◌≤ℤ◌, ◌<ℤ◌}
+use Rattle.std.proofs.Common.{◌≡◌, ℕ, ◌+◌, ◌<◌, ◌⊎◌, inl, inr, ⊎_elim, sym, ◌∙◌, subst, arith, ℤ, ◌+ℤ◌, ◌≤ℤ◌, ◌<ℤ◌, refl}
 use Rattle.std.specs.Int.{int_max}
 use Rattle.std.proofs.lemmas.Int.{ints, clamps, by_lt_z}
 use borrow.Author.Count.{below_more}
 use Rattle.hpe_base.specs.Greatest.{IsGreatest}
+use Rattle.std.specs.Int.Signed.{≤ℤ_refl}
 
 -- the greatest score of a search that has come to place i: a place that is chosen has it, and none below i scores more
 pub record IsGreatestBelow (i : ℕ) (chosen : ℕ → Type 0) (score : ℕ → ℤ) (top : ℤ) : Type 0 where
@@ -102,3 +103,7 @@ IsGreatest-exclude {A} {P} {Q} {f} {z} low split back y py above g = record {
       (split g.reached.0 g.reached.1.0);
   bound = λ x q. g.bound x (back x q);
 }
+
+-- of one place alone its score is the greatest
+pub IsGreatest-single : (f : ℕ → ℤ) (w : ℕ) → IsGreatest (λ (v : ℕ). v ≡ w) f (f w)
+IsGreatest-single f w = record { reached = (w, (refl, refl)); bound = λ v e. subst (λ (u : ℕ). f u ≤ℤ f w) (sym e) (≤ℤ_refl (f w)) }

@@ -80,3 +80,8 @@ pub top-is : (asked : List ℕ → Bool) (score : List ℕ → ℤ) (n : ℕ) (z
     → IsGreatest (λ (x : List ℕ). IsPath 2 n x × (asked x ≡ true)) score z → top_from asked score n [] ≡ Some z
 top-is asked score n z g =
     top_only (λ (x : List ℕ). IsPath 2 n x × (asked x ≡ true)) score z (top_from asked score n []) (top-whole asked score n) g
+
+-- there is a top where there is a word
+pub some_top : {A : Type 0} (chosen : A → Type 0) (score : A → ℤ) (o : Option ℤ) → IsTop chosen score o → (x : A) → chosen x → (z : ℤ) × ((o ≡ Some z) × IsGreatest chosen score z)
+some_top chosen score None h x p = absurd (h x p)
+some_top chosen score (Some z) h x p = (z, (refl, h))

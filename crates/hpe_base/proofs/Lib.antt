@@ -4,6 +4,10 @@ pub mod Numbers
 pub mod Pieces
 pub mod ParameterLemmas
 pub mod KeptLength
+pub mod Selected
+pub mod FrameScan
+pub mod SentFrames
+pub mod SymbolSums
 pub mod Shapes
 pub mod MarkerSearch
 pub mod Permutation

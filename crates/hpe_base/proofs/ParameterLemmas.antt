@@ -1,9 +1,9 @@
 -- Bounds on the numbers of a link.
-use Rattle.std.proofs.Common.{◌≡◌, ◌+◌, ◌-◌, ◌*◌, ◌%◌, ◌^◌, ◌≤◌, ◌<◌, ℕ, length, get_or, ap, arith, lit≤, lit<}
+use Rattle.std.proofs.Common.{◌≡◌, ◌+◌, ◌-◌, ◌*◌, ◌%◌, ◌^◌, ◌≤◌, ◌<◌, ℕ, length, get_or, ap, arith, lit≤, lit<, refl}
 use Rattle.std.proofs.Math.Nat.{mul-le-mul_right, mul_comm}
 use Rattle.std.proofs.lemmas.Nat.{mul-le, mod_below}
 use Rattle.std.proofs.lemmas.List.Elements.{All-get_or}
-use Rattle.hpe_base.specs.Parameters.{Parameters, IsValid, code_steps, block_bits, symbol_bits, codeword_symbols, positions, sending_slots, symbol_slots, period_symbols, period_slots, interleaver_depth}
+use Rattle.hpe_base.specs.Parameters.{Parameters, IsValid, code_steps, block_bits, symbol_bits, codeword_symbols, positions, sending_slots, symbol_slots, period_symbols, period_slots, interleaver_depth, codeword_bits}
 use Rattle.hpe_base.specs.ConvolutionalCode.{AreColumns}
 use Rattle.hpe_base.specs.ChannelInterleaver.{delay_at}
 use Rattle.hpe_base.specs.Geometry.{measures_of}
@@ -50,16 +50,6 @@ symbol_bits-low P32 = lit≤ tt
 symbol_bits-low P64 = lit≤ tt
 symbol_bits-low P128 = lit≤ tt
 symbol_bits-low P256 = lit≤ tt
-
--- a symbol has a pulse position
-pub positions-pos : (o : Order) → 0 < positions o
-positions-pos P4 = lit< tt
-positions-pos P8 = lit< tt
-positions-pos P16 = lit< tt
-positions-pos P32 = lit< tt
-positions-pos P64 = lit< tt
-positions-pos P128 = lit< tt
-positions-pos P256 = lit< tt
 
 -- and at most so many
 pub positions-high : (o : Order) → positions o ≤ 256
@@ -157,3 +147,13 @@ depth-le rows delay r h =
 -- no place is delayed by more than the depth
 pub delay_at-le : (p : Parameters) (v : ℕ) → 0 < p.rows → delay_at p v ≤ interleaver_depth p
 delay_at-le p v pos = depth-le p.rows p.delay (v % p.rows) (mod_below v p.rows pos)
+
+-- a codeword is whole symbols
+pub symbols_fill : (o : Order) → codeword_bits ≡ codeword_symbols o * symbol_bits o
+symbols_fill P4 = refl
+symbols_fill P8 = refl
+symbols_fill P16 = refl
+symbols_fill P32 = refl
+symbols_fill P64 = refl
+symbols_fill P128 = refl
+symbols_fill P256 = refl

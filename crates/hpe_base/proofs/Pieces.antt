@@ -1,11 +1,13 @@
 -- Lists that are made of pieces of an equal length.
-use Rattle.std.proofs.Common.{◌≡◌, ◌++◌, ◌+◌, ◌-◌, ◌*◌, ◌<◌, ◌≤◌, ℕ, List, [], ◌∷◌, refl, length, get_or, take, drop, sym, ◌∙◌, ap, arith, zero, suc, length-append, append-nil}
+use Rattle.std.proofs.Common.{◌≡◌, ◌++◌, ◌+◌, ◌-◌, ◌*◌, ◌<◌, ◌≤◌, ℕ, List, [], ◌∷◌, refl, length, get_or, take, drop, sym, ◌∙◌, ap, arith, zero, suc, length-append, append-nil, inl, inr}
 use Rattle.std.specs.Prelude.{slice_range}
 use Rattle.std.specs.List.{flat_map}
-use Rattle.std.proofs.lemmas.List.{drop-drop, drop_at, drop_all, drop_more, take_at, take_more, length-take-le, length-drop, get_or-take, get_or-drop}
+use Rattle.std.proofs.lemmas.List.{drop-drop, drop_at, drop_all, drop_more, take_at, take_more, length-take-le, length-drop, get_or-take, get_or-drop, drop-append-le, take-append-le, take_all}
 use Rattle.std.proofs.lemmas.List.Concat.{flat_map-append}
 use Rattle.hpe_base.specs.Lists.{tabulate, joined}
-use Rattle.hpe_base.proofs.Tabulated.{tabulate-none, tabulate-suc, tabulate_from_places, joined-same, joined-tabulate}
+use Rattle.hpe_base.proofs.Tabulated.{tabulate-none, tabulate-suc, tabulate_from_places, joined-same, joined-tabulate, length-joined-each}
+use Rattle.std.proofs.lemmas.Bool.{cases_eq}
+use Rattle.std.proofs.lemmas.Nat.{mul-le}
 
 module _ {X A : Type 0} (f : X → List A) (m : ℕ) (each : (x : X) → length (f x) ≡ m) where
   -- as many pieces of m as there are elements
@@ -67,3 +69,21 @@ pub pieces_joined : (n m : ℕ) (xs : List ℕ) → length xs ≡ n * m → join
 pieces_joined n m xs l =
     joined-same n _ (λ s. tabulate m (λ i. get_or xs (s * m + i) 0)) (λ s h. piece_tabulated xs (s * m) m (omega (arith, piece_within n m s h)))
     ∙ (joined-tabulate n m (λ i. get_or xs i 0) ∙ sym (tabulate_from_places (n * m) (λ i. get_or xs i 0) xs 0 l (λ k h. refl)))
+
+-- the list that stands at place k of lists of m items
+pub part-joined : {X : Type 0} (n m k : ℕ) (f : ℕ → List X) → ((j : ℕ) → j < n → length (f j) ≡ m) → k < n → take m (drop (k * m) (joined n f)) ≡ f k
+unfolding joined
+part-joined zero m k f h b = absurd (omega arith)
+part-joined {X = X} (suc n) m k f h b =
+    let whole : length (joined n f) ≡ n * m = length-joined-each n m f (λ j c. h j (omega arith)) in
+    let last : length (f n) ≡ m = h n (omega arith) in
+    elim (cases_eq k n) [
+      | inl e ↦ rw e (ap (λ (l : List X). take m l) (drop_at (joined n f) (f n) (n * m) whole) ∙ take_all m (f n) (omega arith))
+      | inr ne ↦
+          let less : k < n = omega arith in
+          let room : (k + 1) * m ≤ n * m = mul-le (k + 1) m n m (omega arith) (omega arith) in
+          let fits : k * m + m ≤ length (joined n f) = omega arith in
+          ap (λ (l : List X). take m l) (drop-append-le (k * m) (joined n f) (f n) (omega arith))
+          ∙ take-append-le m (drop (k * m) (joined n f)) (f n) (let d = length-drop (k * m) (joined n f) in omega arith)
+          ∙ part-joined n m k f (λ j c. h j (omega arith)) less
+    ]

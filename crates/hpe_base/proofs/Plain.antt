@@ -9,7 +9,6 @@ use Rattle.hpe_base.specs.Parameters.{Parameters, positions, sending_slots, peri
 use Rattle.hpe_base.specs.ChannelInterleaver.{interleaved_channel}
 use Rattle.hpe_base.specs.Slots.{slot_at, octets_to, slots_to}
 use Rattle.hpe_base.specs.Counts.{low_octet, odd_octets}
-use Rattle.hpe_base.specs.Decoded.{counts_frames, decoded, counts_tally, tally_of, counts_report, report_of}
 use Rattle.hpe_base.specs.ReceivedWords.{symbol_sums}
 use Rattle.hpe_base.specs.Laws.{OneOctetIsPlain, whole_sums}
 use Rattle.hpe_base.proofs.Tabulated.{tabulate-same, sum-tabulate-le}
@@ -48,18 +47,3 @@ one_octet-plain p v one = record {
   sums = λ octets start small. sums-whole p octets start v.range.repeat_high small;
   slots = λ n symbols. slots-plain p n symbols one;
 }
-
--- what is decoded and reported is what the octets give as counts
-pub decoded-one : (p : Parameters) (octets : List ℕ) → p.count_octets ≡ 1 → decoded p octets ≡ counts_frames p octets
-unfolding decoded
-decoded-one p octets one = ap (counts_frames p) (counts_of-one p octets one)
-
--- at one octet a count, the tally is that of the octets
-pub tally_of-one : (p : Parameters) (octets : List ℕ) → p.count_octets ≡ 1 → tally_of p octets ≡ counts_tally p octets 0
-unfolding tally_of
-tally_of-one p octets one = ap (λ counts. counts_tally p counts (odd_octets p octets)) (counts_of-one p octets one) ∙ ap (counts_tally p octets) (odd_octets-one p octets one)
-
--- and so is the report
-pub report_of-one : (p : Parameters) (octets : List ℕ) → p.count_octets ≡ 1 → report_of p octets ≡ counts_report p octets 0
-unfolding report_of
-report_of-one p octets one = ap (λ counts. counts_report p counts (odd_octets p octets)) (counts_of-one p octets one) ∙ ap (counts_report p octets) (odd_octets-one p octets one)

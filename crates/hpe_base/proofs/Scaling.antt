@@ -1,10 +1,12 @@
 -- Scaled numbers.
-use Rattle.std.proofs.Common.{◌≡◌, ◌≤◌, ◌*◌, ℕ, ℤ, pos, negsuc, ◌-ℤ◌, suc, ap, ◌∙◌, arith}
+use Rattle.std.proofs.Common.{◌≡◌, ◌≤◌, ◌*◌, ℕ, ℤ, pos, negsuc, ◌-ℤ◌, suc, ap, ◌∙◌, arith, zero, List, [], ◌∷◌, length, sym, subst, replicate, ◌<◌}
 use Rattle.std.specs.Int.{div_ceil}
-use Rattle.std.proofs.lemmas.Int.{ints}
+use Rattle.std.proofs.lemmas.Int.{ints, clamps}
 use Rattle.std.proofs.Math.Nat.{mul-le-mul_left}
-use Rattle.hpe_base.specs.Sizes.{Within}
-use Rattle.hpe_base.specs.SoftValues.{scaled}
+use Rattle.hpe_base.specs.Sizes.{Within, number_at, AllWithin}
+use Rattle.hpe_base.specs.SoftValues.{scaled, clamped}
+use Rattle.hpe_base.specs.Lists.{tabulate}
+use Rattle.hpe_base.proofs.Tabulated.{length-tabulate, get_or-tabulate}
 
 -- eight eighths of a number are the number
 eight_eighths : (n : ℕ) → div_ceil (n * 8) 8 ≡ n
@@ -31,3 +33,26 @@ eighths-pos n s h some =
 pub scaled-within : (s most : ℕ) (v : ℤ) → s ≤ 8 → Within most v → Within most (scaled s v)
 scaled-within s most (pos n) h w = let few : div_ceil (n * s) 8 ≤ n = eighths-le n s h in (omega (arith, ints), omega (arith, ints))
 scaled-within s most (negsuc n) h w = let few : div_ceil (suc n * s) 8 ≤ suc n = eighths-le (suc n) s h in (omega (arith, ints), omega (arith, ints))
+
+-- a clamped number is within the clamp
+pub clamped_within : (v : ℤ) → Within 16383 (clamped v)
+clamped_within v = (omega (arith, ints, clamps), omega (arith, ints, clamps))
+
+-- a list whose places are within bounds
+pub within_places : (xs : List ℤ) → ((i : ℕ) → i < length xs → Within 16383 (number_at xs i)) → AllWithin 16383 xs
+within_places [] f i = (omega (arith, ints), omega (arith, ints))
+within_places (x ∷ xs) f zero = f 0 (omega arith)
+within_places (x ∷ xs) f (suc i) = within_places xs (λ k h. f (suc k) (omega arith)) i
+
+-- a list whose places are given by numbers that were clamped and scaled
+pub scaled_places : (s n : ℕ) (v : ℕ → ℤ) → s ≤ 8 → AllWithin 16383 (tabulate n (λ i. scaled s (clamped (v i))))
+scaled_places s n v few =
+    within_places (tabulate n (λ i. scaled s (clamped (v i)))) (λ i h.
+    let below : i < n = omega (arith, length-tabulate n (λ i. scaled s (clamped (v i)))) in
+    subst (Within 16383) (sym (get_or-tabulate n (λ i. scaled s (clamped (v i))) i (pos 0) below)) (scaled-within s 16383 (clamped (v i)) few (clamped_within (v i))))
+
+-- zeros are within the clamp
+pub zeros_within : (n : ℕ) → AllWithin 16383 (replicate n (pos 0))
+zeros_within zero i = (omega (arith, ints), omega (arith, ints))
+zeros_within (suc n) zero = (omega (arith, ints), omega (arith, ints))
+zeros_within (suc n) (suc i) = zeros_within n i

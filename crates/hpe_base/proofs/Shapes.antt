@@ -6,12 +6,12 @@ use Rattle.std.proofs.lemmas.Bool.{cases_lt}
 use Rattle.std.proofs.lemmas.List.{get_or_past}
 use Rattle.std.proofs.lemmas.List.Elements.{All-append, All-from_get_or, All-take, All-drop, All-get_or}
 use Rattle.hpe_base.specs.Lists.{joined}
-use Rattle.hpe_base.specs.Bits.{AreBits, bits_of, octet_bits, number_of, xor}
+use Rattle.hpe_base.specs.Bits.{AreBits, bits_of, octet_bits, number_of, xor, zeros}
 use Rattle.hpe_base.specs.Parameters.{Parameters, block_bits, codeword_bits, codeword_symbols, symbol_bits, positions}
 use Rattle.hpe_base.specs.declared.profile.Order.{Order}
 use Rattle.hpe_base.specs.Frames.{frame_count, frame, frame_bits, bit_stream}
 use Rattle.hpe_base.specs.FrameScan.{span_bits}
-use Rattle.hpe_base.specs.Slicer.{block_from}
+use Rattle.hpe_base.specs.Slicer.{block_from, block_count}
 use Rattle.hpe_base.specs.Randomiser.{randomised, pseudo_random}
 use Rattle.hpe_base.specs.Termination.{closed_block}
 use Rattle.hpe_base.specs.ConvolutionalCode.{selected, earlier, outputs, kept_at, code_bits}
@@ -20,9 +20,10 @@ use Rattle.hpe_base.specs.Accumulator.{accumulated}
 use Rattle.hpe_base.specs.Mapper.{symbols_of}
 use Rattle.hpe_base.specs.Codeword.{codeword, word_symbols}
 use Rattle.hpe_base.proofs.Tabulated.{length-tabulate, get_or-tabulate, length-joined-each}
-use Rattle.hpe_base.proofs.BitLists.{length-bits_of, length-octet_bits, are_bits-bits_of, are_bits-octet_bits, are_bits-joined, are_bits-none, are_bits-cons, are_bits-tail}
+use Rattle.hpe_base.proofs.BitLists.{length-bits_of, length-octet_bits, are_bits-bits_of, are_bits-octet_bits, are_bits-joined, are_bits-none, are_bits-cons, are_bits-tail, length-zeros}
 use Rattle.hpe_base.proofs.Numbers.{number_of-lt}
 use Rattle.hpe_base.proofs.Pieces.{length-piece, piece_within}
+use Rattle.hpe_base.specs.Slots.{sent_symbols, flush_words}
 
 -- ---- frames and blocks
 -- a frame has the octets that the profile says
@@ -192,3 +193,11 @@ pub length-joined-word_symbols : (p : Parameters) (stream : List ℕ) (n : ℕ) 
 length-joined-word_symbols p stream n =
     length-joined-each n (codeword_symbols p.order) (word_symbols p stream)
     (λ w b. length-codeword p (block_from stream (block_bits p.rate) w))
+
+-- the symbols that are sent are whole codewords
+pub length-sent_symbols : (p : Parameters) (octets : List ℕ) → length (sent_symbols p octets) ≡ (block_count p octets + flush_words p) * codeword_symbols p.order
+length-sent_symbols p octets =
+    let s : ℕ = codeword_symbols p.order in
+    let words : List ℕ = joined (block_count p octets) (word_symbols p (bit_stream p octets)) in
+    let all : (block_count p octets + flush_words p) * s ≡ block_count p octets * s + flush_words p * s = grind arith in
+    omega (arith, length-append words (zeros (flush_words p * s)), length-joined-word_symbols p (bit_stream p octets) (block_count p octets), length-zeros (flush_words p * s))

@@ -220,3 +220,9 @@ sum-tabulate-swap (suc m) n f =
     ∙ (ap (λ x. x + sum (tabulate n (f m))) rows
     ∙ (sym (sum-tabulate-add n (λ i. sum (tabulate m (λ r. f r i))) (f m))
     ∙ sum-tabulate-same n _ _ (λ i b. sym (sum-tabulate-suc m (λ r. f r i)))))
+
+-- pieces, the first one first
+pub joined-first : {X : Type 0} (n : ℕ) (f : ℕ → List X) → joined (suc n) f ≡ f 0 ++ joined n (λ k. f (suc k))
+unfolding joined
+joined-first zero f = sym (append-nil (f 0))
+joined-first (suc n) f = ap (λ xs. xs ++ f (suc n)) (joined-first n f) ∙ append_assoc (f 0) (joined n (λ k. f (suc k))) (f (suc n))

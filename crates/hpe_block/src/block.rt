@@ -56,7 +56,8 @@ pub fn open_block(p: &Profile, word: &[u8], into: &mut [u8]) -> Option<()>
     ensures bits { IsSome result → AreBits into.new }
     ensures unchanged { IsNone result → into.new ≡ into.old }
     ensures opens { (block : List ℕ) → AreBits block → length block ≡ block_bits p.now.rate
-        → word.now ≡ take (information_bits p.now.rate) (closed_block p.now block) → IsSome result × (into.new ≡ block) }
+        → word.now ≡ take (information_bits p.now.rate) (closed_block p.now block) → IsSome result
+        × (into.new ≡ block) }
 {
     if !has_right_check(p, word) {
         return None;

@@ -70,7 +70,8 @@ impl Slicer {
             → (IsTrue result ↔ (0 < length pushed % block_bits self.old.parameters.rate)) }
         ensures whole { IsTrue result → length self.new.held ≡ block_bits self.new.parameters.rate }
         ensures stands { (pushed : _) → HasSliced self.old pushed → IsTrue result
-            → HasSliced self.new (pushed ++ zeros (block_bits self.old.parameters.rate - length pushed % block_bits self.old.parameters.rate)) }
+            → HasSliced self.new (pushed
+            ++ zeros (block_bits self.old.parameters.rate - length pushed % block_bits self.old.parameters.rate)) }
         ensures unchanged { result ≡ false → self.new ≡ self.old }
     {
         let size = self.bits.len();
@@ -88,7 +89,8 @@ impl Slicer {
         ensures value { result.now ≡ self.now.held }
         ensures bits { AreBits result.now }
         ensures law { (pushed : _) → HasSliced self.now pushed
-            → result.now ≡ block_from pushed (block_bits self.now.parameters.rate) (length pushed / block_bits self.now.parameters.rate - 1) }
+            → result.now ≡ block_from pushed (block_bits self.now.parameters.rate)
+            (length pushed / block_bits self.now.parameters.rate - 1) }
     {
         &self.bits
     }

@@ -1,5 +1,5 @@
 -- The words of a clear channel: the pulses of the codewords that were sent.
-use Rattle.std.proofs.Common.{◌≡◌, ◌+◌, ◌-◌, ◌*◌, ◌/◌, ◌%◌, ◌<◌, ◌≤◌, ℕ, List, [], length, get_or, map, take, drop, sym, ◌∙◌, ap, arith, length-append, inl, inr}
+use Rattle.std.proofs.Common.{◌≡◌, ◌+◌, ◌-◌, ◌*◌, ◌/◌, ◌%◌, ◌<◌, ◌≤◌, ℕ, List, [], length, get_or, map, take, drop, sym, ◌∙◌, ap, arith, inl, inr}
 use Rattle.std.specs.Prelude.{if◌then◌else◌, ◌==◌, slice_range}
 use Rattle.std.specs.List.{flat_map}
 use Rattle.std.proofs.lemmas.Nat.{div-mul-add, mod-mul-add}
@@ -7,7 +7,6 @@ use Rattle.std.proofs.lemmas.Bool.Decides.{nat_tests}
 use Rattle.std.proofs.lemmas.Bool.{cases_eq}
 use Rattle.std.proofs.lemmas.List.{length-map, length-take, take-map, drop-map, ext_get_or, get_or-take, get_or-drop}
 use Rattle.hpe_base.specs.Lists.{tabulate, joined}
-use Rattle.hpe_base.specs.Bits.{zeros}
 use Rattle.hpe_base.specs.Parameters.{Parameters, IsValid, block_bits, period_slots, codeword_symbols}
 use Rattle.hpe_base.specs.Frames.{bit_stream}
 use Rattle.hpe_base.specs.Slicer.{block_count, block_from}
@@ -18,13 +17,12 @@ use Rattle.hpe_base.proofs.Counts.{counts_of-clear, odd_octets-clear}
 use Rattle.hpe_base.specs.ChannelInterleaver.{interleaved_channel, deinterleaved_channel}
 use Rattle.hpe_base.specs.MarkerSearch.{Short, At, offset_of}
 use Rattle.hpe_base.specs.ReceivedWords.{groups_of, words_from, words_at, received_words}
-use Rattle.hpe_base.proofs.BitLists.{length-zeros}
 use Rattle.hpe_base.proofs.Channels.{length-interleaved_channel}
-use Rattle.hpe_base.proofs.Pieces.{flat_map-tabulate, length-flat_map-each, length-piece, piece_at, piece_within}
+use Rattle.hpe_base.proofs.Pieces.{flat_map-tabulate, length-piece, piece_at, piece_within}
 use Rattle.hpe_base.proofs.Tabulated.{length-tabulate, get_or-tabulate, tabulate_from_places, tabulate-none}
 use Rattle.hpe_base.proofs.ParameterLemmas.{period-pos}
 use Rattle.hpe_base.proofs.MarkerSearch.{offset_of-short}
-use Rattle.hpe_base.proofs.Shapes.{length-codeword}
+use Rattle.hpe_base.proofs.Shapes.{length-codeword, length-sent_symbols, length-joined-word_symbols}
 use Rattle.hpe_weave.specs.Laws.{ComesBack}
 use Rattle.hpe_weave.proofs.Undone.{channel_interleaver_is_undone}
 use Rattle.hpe_clear.specs.Laws.{clear_octets, clear_counts, full_score}
@@ -42,18 +40,6 @@ data_symbols p octets = joined (block_count p octets) (word_symbols p (bit_strea
 
 data_is : (p : Parameters) (octets : List ℕ) → flat_map (codeword p) (blocks_sent p octets) ≡ data_symbols p octets
 data_is p octets = flat_map-tabulate (codeword p) (block_count p octets) (block_from (bit_stream p octets) (block_bits p.rate))
-
-length-data : (p : Parameters) (octets : List ℕ) → length (data_symbols p octets) ≡ block_count p octets * codeword_symbols p.order
-length-data p octets =
-    ap length (sym (data_is p octets))
-    ∙ (length-flat_map-each (codeword p) (codeword_symbols p.order) (length-codeword p) (blocks_sent p octets)
-    ∙ ap (λ n. n * codeword_symbols p.order) (length-tabulate (block_count p octets) _))
-
-length-sent : (p : Parameters) (octets : List ℕ) → length (sent_symbols p octets) ≡ (block_count p octets + flush_words p) * codeword_symbols p.order
-length-sent p octets =
-    let s : ℕ = codeword_symbols p.order in
-    let rows : (block_count p octets + flush_words p) * s ≡ block_count p octets * s + flush_words p * s = grind arith in
-    omega (arith, length-append (data_symbols p octets) (zeros (flush_words p * s)), length-data p octets, length-zeros (flush_words p * s))
 
 -- the symbols in the order in which they are sent
 abbrev sent_channel : Parameters → List ℕ → List ℕ
@@ -144,7 +130,7 @@ words_back p octets ys front few =
     let s : ℕ = codeword_symbols p.order in
     let b : ℕ = block_count p octets in
     let xs : List ℕ = data_symbols p octets in
-    let size : length xs ≡ b * s = length-data p octets in
+    let size : length xs ≡ b * s = length-joined-word_symbols p (bit_stream p octets) (block_count p octets) in
     let long : length xs ≤ length ys = omega (arith, ap length front, length-take (length xs) ys) in
     let whole : length (map (pulse_sums p) ys) ≡ b * s + (length ys - length xs) = length-map ys (pulse_sums p) ∙ omega arith in
     let count : length (map (pulse_sums p) ys) / s ≡ b = ap (λ n. n / s) whole ∙ div-mul-add b s (length ys - length xs) (omega arith) in
@@ -161,7 +147,7 @@ words_from_clear p octets d v some =
     let s : ℕ = codeword_symbols p.order in
     let chan : List ℕ = sent_channel p octets in
     let n : ℕ = sent_periods p octets in
-    let long : length chan ≡ n * s = length-interleaved_channel p (sent_symbols p octets) ∙ length-sent p octets in
+    let long : length chan ≡ n * s = length-interleaved_channel p (sent_symbols p octets) ∙ length-sent_symbols p octets in
     let back : ComesBack p 0 (data_symbols p octets) = channel_interleaver_is_undone p 0 (data_symbols p octets) v in
     ap (λ counts. words_from p counts d) (counts_are_seen p octets d v some)
     ∙ (ap (λ sums. groups_of s (deinterleaved_channel p [] sums)) (symbols_seen p chan n d v.range.repeat_high (period-pos p v) long)

@@ -14,20 +14,26 @@ use Rattle.hpe_cmd.specs.DecodeRun.{decode_status, status_at}
 use Rattle.hpe_cmd.proofs.DecodeStatus.{status_lit}
 
 -- octets that are all that was left are those that were taken to the end
-taken_all : (known taken : List ℕ) (left : Option (List ℕ)) → Some known ≡ prepend_known taken left → IsAtEnd left → taken ≡ known
+taken_all : (known taken : List ℕ) (left : Option (List ℕ)) → Some known ≡ prepend_known taken left → IsAtEnd left
+    → taken ≡ known
 taken_all known taken None lost end = cc
 taken_all known taken (Some rest) lost end =
     let same : known ≡ taken ++ rest = cc in
     sym (same ∙ ap (λ l. taken ++ l) end ∙ append-nil taken)
 
 -- the status and the frames
-pub clear_run : (p : Parameters) (limit : ℕ) (known left : Option (List ℕ)) (written written' report report' : Option (List ℕ)) (counts octets : List ℕ) (d : ℕ) (s : Status)
-    → IsValid p → All (λ octet. octet < 256) octets → length octets % p.frame_octets ≡ 0 → d < period_slots p → known ≡ Some (clear_octets p octets d)
+pub clear_run : (p : Parameters) (limit : ℕ) (known left written written' report report' : Option (List ℕ))
+    (counts octets : List ℕ) (d : ℕ) (s : Status) → IsValid p
+    → All (λ octet. octet < 256) octets → length octets % p.frame_octets ≡ 0 → d < period_slots p
+    → known ≡ Some (clear_octets p octets d)
     → Receives p limit known left written written' report report' counts → s ≡ decode_status p counts
     → (s ≡ Done) × (written' ≡ append_known written octets)
 clear_run p limit known left written written' report report' counts octets d s v small whole short told r is =
     let law = clear_decoded p octets d v small whole short in
-    let same : counts ≡ clear_octets p octets d = taken_all (clear_octets p octets d) counts left (sym told ∙ r.reads.lost) r.reads.ended in (
-      is ∙ ap (decode_status p) same ∙ ap (λ t. status_at (offset_of p (clear_counts p octets d)) t.lost) law.tally ∙ status_lit (offset_of p (clear_counts p octets d)) 0 law.lit,
+    let same : counts ≡ clear_octets p octets d =
+    taken_all (clear_octets p octets d) counts left (sym told ∙ r.reads.lost) r.reads.ended in (
+      is ∙ ap (decode_status p) same
+          ∙ ap (λ t. status_at (offset_of p (clear_counts p octets d)) t.lost) law.tally
+          ∙ status_lit (offset_of p (clear_counts p octets d)) 0 law.lit,
       r.decodes ∙ ap (λ c. append_known written (decoded p c)) same ∙ ap (append_known written) law.frames,
     )

@@ -23,12 +23,17 @@ ceil d s f some h = elim (cases_lt d f) [
   | inr within ↦ omega arith
 ]
 
-pub slots_fit : (p : Parameters) → IsValid p → (words : ℕ) → words ≤ 2 ^ 34 → Fits w64 ((words + flush_words p) * period_slots p)
+pub slots_fit : (p : Parameters) → IsValid p → (words : ℕ) → words ≤ 2 ^ 34
+    → Fits w64 ((words + flush_words p) * period_slots p)
 slots_fit p v words most =
     let s : ℕ = codeword_symbols p.order in
     let some : 0 < s = omega (arith, codeword_symbols-ge p.order) in
-    let flush : flush_words p ≤ interleaver_depth p = ceil (interleaver_depth p) s (flush_words p) some (div_ceil_times (interleaver_depth p) s some).1 in
-    let depth : interleaver_depth p ≤ 2 ^ 26 = first_factor (interleaver_depth p) (positions p.order) (2 ^ 26) (pow_pos (symbol_bits p.order)) v.depth in
-    let period : period_slots p ≤ 2 ^ 26 = last_factor p.search (period_slots p) (2 ^ 26) (omega (arith, v.range.search_low)) v.window in
-    let all : (words + flush_words p) * period_slots p ≤ (2 ^ 34 + 2 ^ 26) * 2 ^ 26 = mul-le (words + flush_words p) (period_slots p) (2 ^ 34 + 2 ^ 26) (2 ^ 26) (omega arith) period in
+    let flush : flush_words p ≤ interleaver_depth p =
+    ceil (interleaver_depth p) s (flush_words p) some (div_ceil_times (interleaver_depth p) s some).1 in
+    let depth : interleaver_depth p ≤ 2 ^ 26 =
+    first_factor (interleaver_depth p) (positions p.order) (2 ^ 26) (pow_pos (symbol_bits p.order)) v.depth in
+    let period : period_slots p ≤ 2 ^ 26 =
+    last_factor p.search (period_slots p) (2 ^ 26) (omega (arith, v.range.search_low)) v.window in
+    let all : (words + flush_words p) * period_slots p ≤ (2 ^ 34 + 2 ^ 26) * 2 ^ 26 =
+    mul-le (words + flush_words p) (period_slots p) (2 ^ 34 + 2 ^ 26) (2 ^ 26) (omega arith) period in
     omega arith

@@ -1,9 +1,9 @@
 -- The status of a decoding by its tally.
 use Rattle.std.proofs.Common.{◌≡◌, ◌≢◌, ◌∙◌, ℕ, List, refl, sym, ap}
 use Rattle.hpe_base.specs.Parameters.{Parameters}
+use Rattle.hpe_base.specs.Counts.{counts_of}
 use Rattle.hpe_base.specs.MarkerSearch.{Offset, Short, Dark, At, offset_of}
 use Rattle.hpe_base.specs.Decoded.{tally_of}
-use Rattle.hpe_base.proofs.Counts.{counts_of-one}
 use Rattle.hpe_recv.specs.declared.receiver.Tally.{Tally}
 use Rattle.hpe_recv.specs.Receiving.{tallied}
 use Rattle.hpe_cmd.specs.declared.ending.Status.TheVariants.{NoMarker}
@@ -15,11 +15,13 @@ status_lit Short lost lit = refl
 status_lit Dark lost lit = absurd (lit refl)
 status_lit (At offset best) lost lit = refl
 
-pub status_after : (p : Parameters) (counts : List ℕ) (tally : Tally) → p.count_octets ≡ 1 → tallied tally ≡ tally_of p counts → offset_of p counts ≢ Dark → lost_status tally.lost ≡ decode_status p counts
-status_after p counts tally one told lit =
-    ap (λ t. lost_status t.lost) told ∙ sym (ap (λ c. status_at (offset_of p c) (tally_of p counts).lost) (counts_of-one p counts one) ∙ status_lit (offset_of p counts) (tally_of p counts).lost lit)
+pub status_after : (p : Parameters) (octets : List ℕ) (tally : Tally) → tallied tally ≡ tally_of p octets
+    → offset_of p (counts_of p octets) ≢ Dark → lost_status tally.lost ≡ decode_status p octets
+status_after p octets tally told lit =
+    ap (λ t. lost_status t.lost) told
+    ∙ sym (status_lit (offset_of p (counts_of p octets)) (tally_of p octets).lost lit)
 
 -- where it is dark, there is no marker
-pub status_dark : (p : Parameters) (counts : List ℕ) → p.count_octets ≡ 1 → offset_of p counts ≡ Dark → NoMarker ≡ decode_status p counts
-status_dark p counts one dark =
-    sym (ap (λ c. status_at (offset_of p c) (tally_of p counts).lost) (counts_of-one p counts one) ∙ ap (λ o. status_at o (tally_of p counts).lost) dark)
+pub status_dark : (p : Parameters) (octets : List ℕ) → offset_of p (counts_of p octets) ≡ Dark
+    → NoMarker ≡ decode_status p octets
+status_dark p octets dark = sym (ap (λ o. status_at o (tally_of p octets).lost) dark)

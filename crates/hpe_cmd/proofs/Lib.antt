@@ -2,9 +2,11 @@ pub mod Counting
 pub mod SentLine
 pub mod CommandLaws
 pub mod Numbers
+pub mod NumbersAsked
 pub mod DecodeStatus
 pub mod ClearRun
 pub mod Moved
 pub mod EncodeCases
 pub mod DecodeCases
+pub mod SimulateCases
 pub mod ActCases

@@ -1,19 +1,9 @@
--- Changes of devices, and what was put on a report.
-use Rattle.std.proofs.Common.{◌≡◌, ◌≤◌, ◌∙◌, ℕ, zero, suc, List, [], take, Option, Some, None, refl, sym, ap, arith, inl, inr}
+-- What stands where nothing was taken and nothing put.
+use Rattle.std.proofs.Common.{◌≡◌, ◌∙◌, ℕ, zero, suc, List, [], take, Option, Some, None, refl, sym, ap, arith, inl, inr}
 use Rattle.std.specs.Io.KnownBytes.{append_known, prepend_known}
 use Rattle.hpe_io.proofs.Known.{append_nothing}
 use Rattle.hpe_io.specs.Devices.{GrowsByFront, Grows, TakesAtMost}
-use Rattle.hpe_cmd.specs.Changes.{Change}
 use Rattle.hpe_cmd.specs.FaultLines.{IsPut}
-
--- a change by its parts
-abbrev pub moved : Option (List ℕ) → Option (List ℕ) → ℕ → ℕ → Change
-moved known known' faults faults' = record { old = known; new = known'; faults_old = faults; faults_new = faults' }
-
--- the count of faults stood at no more before
-pub put_since : (before faults faults' : ℕ) (old new : Option (List ℕ)) (line : List ℕ) → before ≤ faults → IsPut faults faults' old new line → IsPut before faults' old new line
-put_since before faults faults' old new line h (inl all) = inl all
-put_since before faults faults' old new line h (inr cut) = inr (omega (arith, cut.0, h), cut.1)
 
 take_nothing : (n : ℕ) → take {A = ℕ} n [] ≡ []
 take_nothing zero = refl
@@ -21,11 +11,12 @@ take_nothing (suc n) = refl
 
 -- a front of nothing
 front_nothing : (old new : Option (List ℕ)) → GrowsByFront old new [] → new ≡ old
-front_nothing old new front = front.2 ∙ ap (λ (l : List ℕ). append_known old l) (take_nothing front.0) ∙ append_nothing old
+front_nothing old new front =
+    front.2 ∙ ap (λ (l : List ℕ). append_known old l) (take_nothing front.0) ∙ append_nothing old
 
 -- no line was put
 pub put_nothing : (faults faults' : ℕ) (old new : Option (List ℕ)) → IsPut faults faults' old new [] → new ≡ old
-put_nothing faults faults' old new (inl all) = all ∙ append_nothing old
+put_nothing faults faults' old new (inl all) = all.0 ∙ append_nothing old
 put_nothing faults faults' old new (inr cut) = front_nothing old new cut.1
 
 prepend_nothing : (known : Option (List ℕ)) → known ≡ prepend_known [] known

@@ -1,5 +1,5 @@
 -- What a run did to a device: what it tells before and after, and its counts of faults.
-use Rattle.std.specs.Prelude.{ℕ, List, Option}
+use Rattle.std.specs.Prelude.{◌≡◌, ℕ, List, Option}
 use Rattle.hpe_io.specs.Devices.{Rose, GrowsByFront}
 use Rattle.hpe_cmd.specs.FaultLines.{IsPut}
 
@@ -16,6 +16,10 @@ change known faults x y = record { old = known x; new = known y; faults_old = fa
 -- the device failed
 abbrev pub Fails : Change → Type 0
 Fails c = Rose c.faults_old c.faults_new
+
+-- no call of the device failed
+abbrev pub Serves : Change → Type 0
+Serves c = c.faults_new ≡ c.faults_old
 
 -- the device grew by a front of the octets
 abbrev pub GrowsIn : Change → List ℕ → Type 0

@@ -16,7 +16,7 @@ use Rattle.hpe_cmd.specs.declared.ending.Ending.{Ending}
 use Rattle.hpe_cmd.specs.declared.ending.Ending.TheVariants as ending
 use Rattle.hpe_cmd.specs.declared.ending.Status.{Status}
 use Rattle.hpe_cmd.specs.declared.ending.Status.TheVariants.{Done, ReadFault, WriteFault, ReportFault, TooLong, WordsLost, NoMarker}
-use Rattle.hpe_cmd.specs.Changes.{Change, Fails}
+use Rattle.hpe_cmd.specs.Changes.{Change}
 use Rattle.hpe_cmd.specs.FaultLines.{IsPut, read_line, write_line, limit_line}
 
 -- ---- the status
@@ -46,13 +46,13 @@ received limit (Err (Unmarked counts)) = ending.NoMarker
 
 -- ---- the run
 
--- the counts of an input that was read to its end: the output grew by the frames that they decode to, the report by its
+-- the octets of an input that was read to its end: the output grew by the frames that they decode to, the report by its
 -- lines on them, and they settle the status
 abbrev pub Decodes : Parameters → ℕ → Change → Change → Change → Status → Type 0
 Decodes p limit input output report status =
-    (counts : List ℕ)
-    × Receives p limit input.old input.new output.old output.new report.old report.new counts
-    × (status ≡ decode_status p counts)
+    (octets : List ℕ)
+    × Receives p limit input.old input.new output.old output.new report.old report.new octets
+    × (status ≡ decode_status p octets)
 
 -- where the input is dark slots for less than a period and then the slots of whole frames, the frames come back
 abbrev pub ReturnsFrames : Parameters → Change → Change → Status → Type 0
@@ -62,13 +62,13 @@ ReturnsFrames p input output status =
     → input.old ≡ Some (clear p d (slots_of p octets))
     → (status ≡ Done) × (output.new ≡ append_known output.old octets)
 
--- what a decoding of all counts did
+-- what a decoding of the whole input did
 pub record Decoded (p : Parameters) (limit : ℕ) (input output report : Change) (status : Status) : Type 0 where
   pub decoded : Decodes p limit input output report status
   pub clear : ReturnsFrames p input output status
 
--- the output and the report grew by some front of what the counts settle, the report by whole lines on words, and then by
--- the fault line
+-- the output and the report grew by some front of what the octets settle, the report by whole lines on words, and then
+-- by the fault line
 pub record CutsDecoding (p : Parameters) (limit : ℕ) (input output report : Change) (line : List ℕ) : Type 0 where
   pub told : Option (List ℕ)
   pub part : ReceivesPart p limit input.old input.new output.old output.new report.old told
@@ -82,8 +82,8 @@ DecodeRun p limit input output report WordsLost = Decoded p limit input output r
 DecodeRun p limit input output report NoMarker = Decoded p limit input output report NoMarker
 DecodeRun p limit input output report TooLong =
     TakesCount input.old input.new (limit + 1) × CutsDecoding p limit input output report (limit_line limit)
-DecodeRun p limit input output report ReadFault = Fails input × CutsDecoding p limit input output report read_line
-DecodeRun p limit input output report WriteFault = Fails output × CutsDecoding p limit input output report write_line
+DecodeRun p limit input output report ReadFault = CutsDecoding p limit input output report read_line
+DecodeRun p limit input output report WriteFault = CutsDecoding p limit input output report write_line
 DecodeRun p limit input output report ReportFault =
-    Fails report × ReceivesPart p limit input.old input.new output.old output.new report.old report.new
+    ReceivesPart p limit input.old input.new output.old output.new report.old report.new
 DecodeRun p limit input output report _ = ⊥

@@ -12,7 +12,7 @@ use Rattle.hpe_cmd.specs.declared.ending.Ending.{Ending}
 use Rattle.hpe_cmd.specs.declared.ending.Ending.TheVariants as ending
 use Rattle.hpe_cmd.specs.declared.ending.Status.{Status}
 use Rattle.hpe_cmd.specs.declared.ending.Status.TheVariants.{Done, ReadFault, WriteFault, ReportFault, TooLong, Ragged}
-use Rattle.hpe_cmd.specs.Changes.{Change, Fails, GrowsIn, IsTold}
+use Rattle.hpe_cmd.specs.Changes.{Change, Fails, GrowsIn, IsTold, Serves}
 use Rattle.hpe_cmd.specs.FaultLines.{read_line, write_line, limit_line, ragged_line}
 
 -- ---- the line
@@ -20,7 +20,10 @@ use Rattle.hpe_cmd.specs.FaultLines.{read_line, write_line, limit_line, ragged_l
 -- the line on so many frames, codewords and slots
 unfoldable pub sent_line : ℕ → ℕ → ℕ → List ℕ
 sent_line frames words slots =
-    codes "frames " ++ decimal frames ++ codes " words " ++ decimal words ++ codes " slots " ++ decimal slots ++ codes "\n"
+    codes "frames " ++ decimal frames
+    ++ codes " words " ++ decimal words
+    ++ codes " slots " ++ decimal slots
+    ++ codes "\n"
 
 -- the slots of so many codewords: a period for each, and for each that flushes the channel interleaver
 abbrev pub sent_slots : Parameters → ℕ → ℕ
@@ -29,11 +32,12 @@ sent_slots p words = if words == 0 then 0 else (words + flush_words p) * period_
 -- the line on the frames in the octets
 abbrev pub encode_line : Parameters → List ℕ → List ℕ
 encode_line p octets =
-    sent_line (frame_count p octets) (block_count p octets) (length (slots_to p (period_count p octets) (sent_symbols p octets)))
+    sent_line (frame_count p octets) (block_count p octets)
+    (length (slots_to p (period_count p octets) (sent_symbols p octets)))
 
 -- a line that is no fault line was put, or the report failed in it
 abbrev pub Reports : Change → List ℕ → Status → Type 0
-Reports report line Done = report.new ≡ append_known report.old line
+Reports report line Done = (report.new ≡ append_known report.old line) × Serves report
 Reports report line ReportFault = Fails report × GrowsIn report line
 Reports report line _ = ⊥
 
@@ -69,13 +73,13 @@ EncodeRun p limit input output report Done =
 EncodeRun p limit input output report ReportFault =
     (octets : List ℕ) × Encodes p limit input output octets
     × (length octets % p.frame_octets ≡ 0)
-    × Fails report × GrowsIn report (encode_line p octets)
+    × GrowsIn report (encode_line p octets)
 EncodeRun p limit input output report Ragged =
     (octets : List ℕ) × Encodes p limit input output octets
     × (0 < length octets % p.frame_octets)
     × IsTold report (ragged_line (length octets % p.frame_octets))
 EncodeRun p limit input output report TooLong =
     TakesCount input.old input.new (limit + 1) × CutsOff p limit input output × IsTold report (limit_line limit)
-EncodeRun p limit input output report ReadFault = Fails input × CutsOff p limit input output × IsTold report read_line
-EncodeRun p limit input output report WriteFault = Fails output × CutsOff p limit input output × IsTold report write_line
+EncodeRun p limit input output report ReadFault = CutsOff p limit input output × IsTold report read_line
+EncodeRun p limit input output report WriteFault = CutsOff p limit input output × IsTold report write_line
 EncodeRun p limit input output report _ = ⊥

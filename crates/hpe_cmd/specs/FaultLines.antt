@@ -24,7 +24,7 @@ write_line = codes "write fault\n"
 abbrev pub memory_line : List ℕ
 memory_line = codes "no memory\n"
 
--- the line on an input with more octets than the limit
+-- the line on an input with more octets than the limit, or a simulation with more slots
 unfoldable pub limit_line : ℕ → List ℕ
 limit_line limit = codes "too long: limit " ++ decimal limit ++ codes "\n"
 
@@ -72,7 +72,8 @@ fault_line NoMarker = []
 fault_line ProfileTooLong = codes "profile too long\n"
 fault_line ProfileAbsent = codes "profile not found\n"
 
--- the line was put, or a front of it where the count of faults rose
+-- the line was put and the count of faults stays, or it rose and a front of the line was put
 abbrev pub IsPut : ℕ → ℕ → Option (List ℕ) → Option (List ℕ) → List ℕ → Type 0
 IsPut faults faults' written written' line =
-    (written' ≡ append_known written line) ⊎ (Rose faults faults' × GrowsByFront written written' line)
+    ((written' ≡ append_known written line) × (faults' ≡ faults))
+    ⊎ (Rose faults faults' × GrowsByFront written written' line)

@@ -7,7 +7,7 @@ use Rattle.hpe_base.specs.Parameters.{Parameters, positions, code_steps, block_b
 use Rattle.hpe_base.specs.Slots.{flush_words}
 use Rattle.hpe_cmd.specs.declared.ending.Status.{Status}
 use Rattle.hpe_cmd.specs.declared.ending.Status.TheVariants.{Done, WriteFault}
-use Rattle.hpe_cmd.specs.Changes.{Change, Fails, GrowsIn, IsTold}
+use Rattle.hpe_cmd.specs.Changes.{Change, GrowsIn, IsTold}
 use Rattle.hpe_cmd.specs.FaultLines.{write_line}
 
 -- the rate as it is written in a profile
@@ -35,5 +35,5 @@ abbrev pub GeometryRun : Parameters → Change → Change → Status → Type 0
 GeometryRun p output report Done =
     (output.new ≡ append_known output.old (geometry_line p)) × (report.new ≡ report.old)
 GeometryRun p output report WriteFault =
-    Fails output × GrowsIn output (geometry_line p) × IsTold report write_line
+    GrowsIn output (geometry_line p) × IsTold report write_line
 GeometryRun p output report _ = ⊥

@@ -1,8 +1,11 @@
 pub mod Words
+pub mod NumberWords
 pub mod Statuses
 pub mod FaultLines
 pub mod Changes
+pub mod Causes
 pub mod EncodeRun
 pub mod DecodeRun
 pub mod GeometryRun
+pub mod SimulateRun
 pub mod Runs

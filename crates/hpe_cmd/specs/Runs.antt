@@ -1,12 +1,12 @@
 -- What a run comes to by its words and its shelf, and what its action did.
 use Rattle.std.specs.Prelude.{◌≡◌, ◌≢◌, ◌≤◌, ◌⊎◌, ℕ, Bool, false, List, Option, Some, None, Result, Ok, Err, IfSome, IsTrue, is_ok, is_some, option_map}
 use Rattle.hpe_base.specs.Parameters.{Parameters, basic}
-use Rattle.hpe_io.specs.Devices.{Rose}
 use Rattle.hpe_io.specs.Shelves.{Named, text_under, fetched}
 use Rattle.hpe_io.specs.declared.shelf.ShelfFault.{ShelfFault as Refused}
 use Rattle.hpe_io.specs.declared.shelf.ShelfFault.TheVariants as shelf
 use Rattle.hpe_profile.specs.ProfileText.{profile_of_text}
 use Rattle.hpe_profile.specs.declared.fault.ReadFault.{ReadFault as Cause}
+use Rattle.hpe_sim.specs.declared.task.Task.{Task}
 use Rattle.hpe_cmd.specs.declared.ending.Ending.{Ending}
 use Rattle.hpe_cmd.specs.declared.ending.Ending.TheVariants as ending
 use Rattle.hpe_cmd.specs.declared.ending.Status.{Status}
@@ -14,13 +14,14 @@ use Rattle.hpe_cmd.specs.declared.ending.Status.TheVariants.{Usage, ShelfFault, 
 use Rattle.hpe_cmd.specs.declared.words.Action.{Action}
 use Rattle.hpe_cmd.specs.declared.words.Refusal.{Refusal}
 use Rattle.hpe_cmd.specs.declared.words.Refusal.TheVariants as refusal
-use Rattle.hpe_cmd.specs.declared.words.Action.TheVariants.{Encode, Decode, Geometry}
+use Rattle.hpe_cmd.specs.declared.words.Action.TheVariants.{Encode, Decode, Geometry, Simulate}
 use Rattle.clap.specs.Walk.{Text}
 use Rattle.hpe_cmd.specs.Changes.{Change, IsTold}
 use Rattle.hpe_cmd.specs.DecodeRun.{DecodeRun}
 use Rattle.hpe_cmd.specs.EncodeRun.{EncodeRun}
 use Rattle.hpe_cmd.specs.FaultLines.{fault_line}
 use Rattle.hpe_cmd.specs.GeometryRun.{GeometryRun}
+use Rattle.hpe_cmd.specs.SimulateRun.{SimulateRun}
 use Rattle.hpe_cmd.specs.Statuses.{status_of, is_early}
 use Rattle.hpe_cmd.specs.Words.{Request}
 
@@ -79,8 +80,8 @@ abbrev pub Follows : Result Parameters Ending → Result Status Ending → Type 
 Follows (Ok p) result = IsTrue (is_ok result) ⊎ Stops result
 Follows (Err e) result = (result ≡ Err e) ⊎ Stops result
 
--- the run ended as the opening of the profile settles, with the fault line of its ending, or the shelf failed, or there was
--- no memory
+-- the run ended as the opening of the profile settles, with the fault line of its ending, or the shelf failed, or there
+-- was no memory
 abbrev pub Settles : Result Parameters Ending → Change → Status → Type 0
 Settles (Ok p) report status = (is_early status ≡ false) ⊎ ((status ≡ ShelfFault) ⊎ (status ≡ NoMemory))
 Settles (Err e) report status =
@@ -91,12 +92,13 @@ abbrev pub names_profile : Option Request → Bool
 names_profile None = false
 names_profile (Some request) = is_some request.profile
 
--- what a run does to a shelf: it is asked only for a profile that the words name, and fails only where its count rose
-pub record ShelfRun {S : Type 0} (request : Option Request) (texts : S → Option (List Named)) (faults : S → ℕ) (old new : S) (status : Status) : Type 0 where
+-- what a run does to a shelf: it is asked only for a profile that the words name
+pub record ShelfRun {S : Type 0} (request : Option Request) (texts : S → Option (List Named)) (faults : S → ℕ)
+    (old new : S) (status : Status) : Type 0 where
   pub later : faults old ≤ faults new
   pub same : texts new ≡ texts old
   pub unasked : names_profile request ≡ false → new ≡ old
-  pub fault : status ≡ ShelfFault → IsTrue (names_profile request) × Rose (faults old) (faults new)
+  pub fault : status ≡ ShelfFault → IsTrue (names_profile request)
 
 -- ---- actions
 
@@ -110,19 +112,23 @@ abbrev pub EarlyRun : Change → Status → Type 0
 EarlyRun report status = (e : Ending) × (status ≡ status_of e) × IsTold report (fault_line e)
 
 -- what an action did, by how it ended
-abbrev pub ActRun : Action → Parameters → ℕ → Change → Change → Change → Status → Type 0
-ActRun Encode p limit input output report status = EncodeRun p limit input output report status
-ActRun Decode p limit input output report status = DecodeRun p limit input output report status
-ActRun Geometry p limit input output report status = (input.new ≡ input.old) × GeometryRun p output report status
+abbrev pub ActRun : Action → Parameters → ℕ → Task → Change → Change → Change → Status → Type 0
+ActRun Encode p limit task input output report status = EncodeRun p limit input output report status
+ActRun Decode p limit task input output report status = DecodeRun p limit input output report status
+ActRun Geometry p limit task input output report status = (input.new ≡ input.old) × GeometryRun p output report status
+ActRun Simulate p limit task input output report status =
+    (input.new ≡ input.old) × SimulateRun p limit task output report status
 
 -- what was asked was done under the profile that is asked
 abbrev pub Acts : Option Request → Option (List Named) → Change → Change → Change → Status → Type 0
 Acts asked texts input output report status =
     (r : Request) × (asked ≡ Some r) × (p : Parameters) × IsChosen texts r.profile p
-    × ActRun r.action p r.limit input output report status
+    × ActRun r.action p r.limit r.task input output report status
 
--- what holds of a run whose words ask for this action and that gets to it, under the profile and the limit that are asked
-abbrev pub WhereAsked : Option Request → Option (List Named) → Action → Status → (Parameters → ℕ → Type 0) → Type 0
+-- what holds of a run whose words ask for this action and that gets to it, under the profile that is asked and what the
+-- words ask
+abbrev pub WhereAsked : Option Request → Option (List Named) → Action → Status → (Parameters → Request → Type 0)
+    → Type 0
 WhereAsked asked texts action status Holds =
     (r : Request) → asked ≡ Some r → r.action ≡ action → is_early status ≡ false
-    → (p : Parameters) × IsChosen texts r.profile p × Holds p r.limit
+    → (p : Parameters) × IsChosen texts r.profile p × Holds p r

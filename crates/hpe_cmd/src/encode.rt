@@ -2,6 +2,7 @@
 
 ghost use Rattle.std.specs.Prelude.{◌≡◌, ◌≤◌, ◌<◌, ◌^◌, length, IfErr, IfOk};
 ghost use Rattle.hpe_io.specs.Standing.{SinkStands, SourceStands};
+ghost use Rattle.hpe_cmd.specs.Causes.{HasCause};
 ghost use Rattle.hpe_cmd.specs.Changes.{change};
 ghost use Rattle.hpe_cmd.specs.EncodeRun.{EncodeRun, Reports, sent_line, sent_slots, unsent};
 
@@ -63,8 +64,8 @@ fn report_sent<R: Sink>(p: &Profile, sent: &Sent, report: &mut R) -> Status
     }
 }
 
-/// Encodes the whole frames of the input, of at most `limit` octets, and puts a line on them where nothing is left over.
-/// Without memory nothing is done.
+/// Encodes the whole frames of the input, of at most `limit` octets, and puts a line on them where nothing is left
+/// over. Without memory nothing is done.
 pub fn encode<I: Source, O: Sink, R: Sink>(
     alloc: Global,
     p: &Profile,
@@ -78,6 +79,8 @@ pub fn encode<I: Source, O: Sink, R: Sink>(
         (change O.written O.faults output.old output.new) (change R.written R.faults report.old report.new) status) }
     ensures err { IfErr result (λ e. (e ≡ Ending.NoMemory)
         × (input.new ≡ input.old) × (output.new ≡ output.old) × (report.new ≡ report.old)) }
+    ensures cause { IfOk result (λ status. HasCause status (change I.left I.faults input.old input.new)
+        (change O.written O.faults output.old output.new) (change R.written R.faults report.old report.new)) }
     ensures input { SourceStands I.faults I.mark I.build input.old input.new }
     ensures output { SinkStands O.faults O.mark output.old output.new }
     ensures report { SinkStands R.faults R.mark report.old report.new }

@@ -17,8 +17,8 @@ pub const LIMIT: u64 = 1 << 40;
 /// How a run ended.
 #[derive(Clone, Copy, Debug, PartialEq, Eq)]
 pub enum Status {
-    /// All was done: the whole frames of the input are encoded and nothing is left over, the input is decoded and no word
-    /// is lost, or the measures are written.
+    /// All was done: the whole frames of the input are encoded and nothing is left over, the input or the simulation is
+    /// decoded and no word is lost, or the measures are written.
     Done,
     /// The words are not a command.
     Usage,
@@ -34,13 +34,13 @@ pub enum Status {
     ReportFault,
     /// There was no memory while words, profile and buffers were made: no input was taken and nothing written.
     NoMemory,
-    /// The input has more octets than the limit.
+    /// The input has more octets than the limit, or the simulation more slots.
     TooLong,
     /// The whole frames of the input are encoded, and the octets after them are not.
     Ragged,
-    /// The input is decoded, and some word is lost.
+    /// The input or the simulation is decoded, and some word is lost.
     WordsLost,
-    /// The input is read, and all that the marker search sees of it is dark.
+    /// The input is read or a link simulated, and all that the marker search sees of it is dark.
     NoMarker,
     /// The text of the profile is too long.
     ProfileTooLong,
@@ -83,7 +83,7 @@ pub enum Ending {
     WriteFault,
     ReportFault,
     NoMemory,
-    /// The input has more than `limit` octets.
+    /// The input has more than `limit` octets, or the simulation more than `limit` slots.
     TooLong { limit: u64 },
     /// `rest` octets of a begun frame are left over.
     Ragged { rest: u64 },

@@ -2,7 +2,8 @@
 
 ghost use Rattle.std.specs.Prelude.{◌≡◌, ◌<◌, ◌≤◌, length};
 ghost use Rattle.hpe_io.specs.Standing.{SinkStands};
-ghost use Rattle.hpe_cmd.specs.Changes.{change};
+ghost use Rattle.hpe_cmd.specs.Causes.{HasCause};
+ghost use Rattle.hpe_cmd.specs.Changes.{Change, Serves, change};
 ghost use Rattle.hpe_cmd.specs.GeometryRun.{GeometryRun, geometry_line, rate_text};
 
 use crate::ending::{Ending, Status};
@@ -47,6 +48,8 @@ fn geometry_line(p: &Profile) -> Line
 pub fn geometry_of<O: Sink, R: Sink>(p: &Profile, output: &mut O, report: &mut R) -> Status
     ensures run { GeometryRun p.now
         (change O.written O.faults output.old output.new) (change R.written R.faults report.old report.new) result }
+    ensures cause { (input : Change) → Serves input → HasCause result input
+        (change O.written O.faults output.old output.new) (change R.written R.faults report.old report.new) }
     ensures silent { result ≡ Status.Done → report.new ≡ report.old }
     ensures output { SinkStands O.faults O.mark output.old output.new }
     ensures report { SinkStands R.faults R.mark report.old report.new }

@@ -1,12 +1,14 @@
-//! The program `hpe`: it encodes transfer frames to slots and decodes counts.
+//! The program `hpe`: it encodes transfer frames to slots, decodes counts and simulates links.
 #![tactic(auto)]
 
 mod decode;
 mod encode;
 mod ending;
 mod geometry;
+mod host;
 mod open;
 mod run;
+mod simulate;
 #[cfg(test)]
 mod tests;
 mod words;
@@ -14,6 +16,7 @@ mod words;
 use crate::ending::Ending;
 use crate::run::run;
 use hpe_io::{OsShelf, OsSink, OsSource};
+use hpe_recv::OpenGate;
 use std::env;
 use std::io::ErrorKind;
 use std::process::ExitCode;
@@ -33,6 +36,14 @@ fn main(rt: HostRuntime) -> ExitCode {
     let mut shelf = OsShelf::new(&rt);
     let input = OsSource::new(rt.stdin());
     let mut output = OsSink::new(rt.stdout());
-    let ended = run(&rt, &words, &mut shelf, input, &mut output, &mut report);
+    let ended = run(
+        &rt,
+        &OpenGate,
+        &words,
+        &mut shelf,
+        input,
+        &mut output,
+        &mut report,
+    );
     ExitCode::from(ended.status.number())
 }

@@ -1,9 +1,9 @@
 //! The profile that a command names.
 
-ghost use Rattle.std.specs.Prelude.{◌≡◌, ◌≢◌, ◌≤◌, ◌⊎◌, Err, IfErr, IfOk, IfSome, IsTrue, Ok, None, Some};
+ghost use Rattle.std.specs.Prelude.{◌≡◌, ◌≢◌, ◌≤◌, ◌⊎◌, Err, IfErr, IfSome, IsTrue, Ok, None, Some};
 ghost use Rattle.hpe_base.specs.Parameters.{basic};
-ghost use Rattle.hpe_io.specs.Devices.{Rose};
 ghost use Rattle.hpe_profile.specs.ProfileText.{profile_of_text};
+ghost use Rattle.hpe_cmd.specs.Causes.{ShelfCause, status_after};
 ghost use Rattle.hpe_cmd.specs.Runs.{Opens, named_profile, opened, read_as, refusal_of};
 ghost use Rattle.hpe_cmd.specs.Statuses.{is_early, status_of};
 ghost use Rattle.hpe_cmd.specs.Words.{text_behind};
@@ -33,7 +33,6 @@ fn profile_of(alloc: Global, text: &[u8]) -> Result<Profile, Ending>
     ensures text { (result ≡ read_as (profile_of_text text.now)) ⊎ (result ≡ Err Ending.NoMemory) }
     ensures early { IfErr result (λ e. IsTrue (is_early (status_of e)) × (e ≢ Ending.Usage)) }
     ensures no_fault { result ≢ Err Ending.ShelfFault }
-    ensures one { IfOk result (λ p. p.count_octets ≡ 1) }
 {
     match read_profile(alloc, text) {
         Ok(p) => Ok(p),
@@ -45,11 +44,10 @@ fn profile_of(alloc: Global, text: &[u8]) -> Result<Profile, Ending>
 /// The profile of that name.
 fn fetch_profile<S: Shelf>(alloc: Global, shelf: &mut S, name: &str) -> Result<Profile, Ending>
     ensures settled { IfSome (S.texts shelf.old) (λ ts. Opens (named_profile name.now ts) result) }
-    ensures fault { result ≡ Err Ending.ShelfFault → Rose (S.faults shelf.old) (S.faults shelf.new) }
+    ensures cause { ShelfCause (status_after result) (S.faults shelf.old) (S.faults shelf.new) }
     ensures later { S.faults shelf.old ≤ S.faults shelf.new }
     ensures same { S.texts shelf.new ≡ S.texts shelf.old }
     ensures early { IfErr result (λ e. IsTrue (is_early (status_of e)) × (e ≢ Ending.Usage)) }
-    ensures one { IfOk result (λ p. p.count_octets ≡ 1) }
 {
     let mut text = Vec::new(alloc);
     match shelf.fetch(name, &mut text) {
@@ -66,11 +64,10 @@ pub fn open_profile<S: Shelf>(
 ) -> Result<Profile, Ending>
     ensures settled { IfSome (opened (S.texts shelf.old) (text_behind name.entry)) (λ settled. Opens settled result) }
     ensures unnamed { text_behind name.entry ≡ None → (result ≡ Ok basic) × (shelf.new ≡ shelf.old) }
-    ensures fault { result ≡ Err Ending.ShelfFault → Rose (S.faults shelf.old) (S.faults shelf.new) }
+    ensures cause { ShelfCause (status_after result) (S.faults shelf.old) (S.faults shelf.new) }
     ensures later { S.faults shelf.old ≤ S.faults shelf.new }
     ensures same { S.texts shelf.new ≡ S.texts shelf.old }
     ensures early { IfErr result (λ e. IsTrue (is_early (status_of e)) × (e ≢ Ending.Usage)) }
-    ensures one { IfOk result (λ p. p.count_octets ≡ 1) }
 {
     match name {
         None => Ok(Profile::basic()),

@@ -1,8 +1,12 @@
 //! Runs of the program over devices in memory.
 
+mod gate;
+mod simulate;
+
 use crate::ending::Status;
 use crate::run::run;
 use hpe_io::{MemShelf, MemSink, MemSource};
+use hpe_recv::{Gate, OpenGate};
 use std::alloc::Global;
 use std::process::Abort;
 use std::test::Fail;
@@ -107,9 +111,21 @@ const fn sound<'a>(words: &'a [&'a str]) -> Given<'a> {
 }
 
 /// Runs over the input and compares the status and the report. It answers what was written.
-#[tactic(auto, unfolding(hpe_io::specs::Shelves::text_under))]
 fn written<T: Abort + AllocGlobal + Threads + Sync>(
     rt: &T,
+    given: &Given,
+    input: &[u8],
+    status: Status,
+    told: &str,
+) -> Result<Vec<u8>, Fail> {
+    written_past(rt, &OpenGate, given, input, status, told)
+}
+
+/// The same, where each job that decodes a word passes the gate.
+#[tactic(auto, unfolding(hpe_io::specs::Shelves::text_under))]
+fn written_past<T: Abort + AllocGlobal + Threads + Sync, G: Gate>(
+    rt: &T,
+    gate: &G,
     given: &Given,
     input: &[u8],
     status: Status,
@@ -124,7 +140,15 @@ fn written<T: Abort + AllocGlobal + Threads + Sync>(
     let input = MemSource::new(rt.alloc(), input, &[given.piece], given.takes)?;
     let mut output = MemSink::new(rt.alloc(), given.room, given.puts)?;
     let mut report = MemSink::new(rt.alloc(), given.told, &[])?;
-    let ended = run(rt, &command, &mut shelf, input, &mut output, &mut report);
+    let ended = run(
+        rt,
+        gate,
+        &command,
+        &mut shelf,
+        input,
+        &mut output,
+        &mut report,
+    );
     assert_eq!(rt; ended.status, status, "the status beside {told}");
     assert_eq!(rt; report.bytes(), told.as_bytes());
     Ok(Vec::from_slice(rt.alloc(), output.bytes())?)
@@ -336,7 +360,11 @@ fn streams_of_one_frame(rt: HostRuntime) -> Result<(), Fail> {
     let half = Given { room: 50, ..whole };
     let after = "word 0 kept 1\nwords 1 kept 1 lost 0 frames 1 lead 0 tail 10\n";
     let twice = "word 0 kept 2\nwords 1 kept 1 lost 0 frames 1 lead 0 tail 0\n";
-    let cases: [(Given, &[u8], Status, &str, usize); 14] = [
+    let many = Given {
+        words: &["hpe", "decode", "--workers", "16"],
+        ..whole
+    };
+    let cases: [(Given, &[u8], Status, &str, usize); 16] = [
         (
             whole,
             &[],
@@ -351,6 +379,7 @@ fn streams_of_one_frame(rt: HostRuntime) -> Result<(), Fail> {
             "word 0 kept 1\nwords 1 kept 1 lost 0 frames 1 lead 0 tail 0\n",
             100,
         ),
+        (many, &dark_after, Status::Done, after, 100),
         (ones, &dark_after, Status::Done, after, 100),
         (sevens, &dark_after, Status::Done, after, 100),
         (whole, &dark_after, Status::Done, after, 100),
@@ -361,6 +390,7 @@ fn streams_of_one_frame(rt: HostRuntime) -> Result<(), Fail> {
             "word 0 kept 1\nwords 1 kept 1 lost 0 frames 1 lead 75919 tail 0\n",
             100,
         ),
+        (many, &gapped, Status::Done, twice, 100),
         (ones, &gapped, Status::Done, twice, 100),
         (sevens, &gapped, Status::Done, twice, 100),
         (whole, &gapped, Status::Done, twice, 100),
@@ -466,6 +496,49 @@ fn links_of_other_profiles(rt: HostRuntime) -> Result<(), Fail> {
 }
 
 #[test]
+fn counts_of_two_octets(rt: HostRuntime) -> Result<(), Fail> {
+    let wide: Option<&[u8]> = Some(b"order = 16\nrate = \"1/3\"\ncount_octets = 2\n");
+    let one = "frames 1 words 1 slots 75920\n";
+    let frame = zeros(rt.alloc(), 100)?;
+    let slots = written(&rt, &sound(ENCODE), &frame, Status::Done, one)?;
+    let mut wider = Vec::new(rt.alloc());
+    for slot in &slots {
+        wider.push(0)?;
+        wider.push(*slot)?;
+    }
+    let send = Given {
+        profile: wide,
+        ..sound(&["hpe", "encode", "--profile", "p.toml"])
+    };
+    let sent = written(&rt, &send, &frame, Status::Done, one)?;
+    assert_eq!(rt; sent.as_slice(), wider.as_slice());
+    wider.push(9)?;
+    let receive = Given {
+        profile: wide,
+        ..sound(&["hpe", "decode", "--profile", "p.toml"])
+    };
+    let kept = "word 0 kept 1\nwords 1 kept 1 lost 0 frames 1 lead 0 tail 0\n";
+    let odd = "word 0 kept 1\nwords 1 kept 1 lost 0 frames 1 lead 0 tail 1\n";
+    let half = "words 0 kept 0 lost 0 frames 0 lead 0 tail 1\n";
+    let cases: [(u32, &[u8], &str, usize); 4] = [
+        (65_536, &sent, kept, 100),
+        (65_536, &wider, odd, 100),
+        // Takes that end within a count.
+        (4_097, &wider, odd, 100),
+        (65_536, &[1], half, 0),
+    ];
+    for (piece, octets, told, size) in &cases {
+        let receive = Given {
+            piece: *piece,
+            ..receive
+        };
+        let frames = written(&rt, &receive, octets, Status::Done, told)?;
+        assert_eq!(rt; frames.as_slice(), zeros(rt.alloc(), *size)?.as_slice());
+    }
+    Ok(())
+}
+
+#[test]
 fn words_and_profiles(rt: HostRuntime) -> Result<(), Fail> {
     let basic =
         "order 16 rate 1/3 steps 5040 block 5006 symbols 3780 marker 16 period 75920 depth 0 flush 0\n";
@@ -482,7 +555,7 @@ fn words_and_profiles(rt: HostRuntime) -> Result<(), Fail> {
         profile: text,
         ..named
     };
-    let cases: [(Given, Status, &str, &str); 29] = [
+    let cases: [(Given, Status, &str, &str); 43] = [
         (
             Given {
                 fetches: &[0],
@@ -617,6 +690,24 @@ fn words_and_profiles(rt: HostRuntime) -> Result<(), Fail> {
             "",
             "bad profile: range of marker\n",
         ),
+        (
+            Given {
+                profile: Some(b"order = 16\nrate = \"1/3\"\ncount_octets = 2"),
+                ..named
+            },
+            Status::Done,
+            basic,
+            "",
+        ),
+        (
+            Given {
+                profile: Some(b"order = 16\nrate = \"1/3\"\ncount_octets = 3"),
+                ..named
+            },
+            Status::BadProfile,
+            "",
+            "bad profile: range of count_octets\n",
+        ),
         (sound(&[]), Status::Usage, "", USAGE),
         (sound(&["hpe"]), Status::Usage, "", USAGE),
         (sound(&["hpe", "mend"]), Status::Usage, "", USAGE),
@@ -641,6 +732,24 @@ fn words_and_profiles(rt: HostRuntime) -> Result<(), Fail> {
             USAGE,
         ),
         (
+            sound(&["hpe", "decode", "--workers", "0"]),
+            Status::Usage,
+            "",
+            USAGE,
+        ),
+        (
+            sound(&["hpe", "encode", "--workers", "2"]),
+            Status::Usage,
+            "",
+            USAGE,
+        ),
+        (
+            sound(&["hpe", "geometry", "--workers", "1"]),
+            Status::Usage,
+            "",
+            USAGE,
+        ),
+        (
             sound(&["hpe", "geometry", "--limit", "5"]),
             Status::Usage,
             "",
@@ -660,6 +769,60 @@ fn words_and_profiles(rt: HostRuntime) -> Result<(), Fail> {
         ),
         (
             sound(&["hpe", "encode", "--limit", "5", "--limit", "6"]),
+            Status::Usage,
+            "",
+            USAGE,
+        ),
+        (
+            sound(&["hpe", "geometry", "--seed", "1"]),
+            Status::Usage,
+            "",
+            USAGE,
+        ),
+        (
+            sound(&["hpe", "encode", "--frames", "1"]),
+            Status::Usage,
+            "",
+            USAGE,
+        ),
+        (
+            sound(&["hpe", "decode", "--lost", "0"]),
+            Status::Usage,
+            "",
+            USAGE,
+        ),
+        (
+            sound(&["hpe", "decode", "--noise", "0"]),
+            Status::Usage,
+            "",
+            USAGE,
+        ),
+        (
+            sound(&["hpe", "simulate", "--limit", "268435457"]),
+            Status::Usage,
+            "",
+            USAGE,
+        ),
+        (
+            sound(&["hpe", "simulate", "--seed", "9223372036854775808"]),
+            Status::Usage,
+            "",
+            USAGE,
+        ),
+        (
+            sound(&["hpe", "simulate", "--frames", "65536"]),
+            Status::Usage,
+            "",
+            USAGE,
+        ),
+        (
+            sound(&["hpe", "simulate", "--lost", "65536"]),
+            Status::Usage,
+            "",
+            USAGE,
+        ),
+        (
+            sound(&["hpe", "simulate", "--noise", "65536"]),
             Status::Usage,
             "",
             USAGE,

@@ -43,7 +43,8 @@ impl Model for Crew {
 fn decode_jobs<R: Threads + Sync, G: Gate>(rt: &R, gate: &G, jobs: &mut [Job], workers: usize)
     requires workers { (0 < workers) × (length jobs.old ≤ 16) }
     ensures len { length jobs.new ≡ length jobs.old }
-    ensures each { (i : ℕ) (d : _) → i < length jobs.old → slice_index_or jobs.new i d ≡ answered (slice_index_or jobs.old i d) }
+    ensures each { (i : ℕ) (d : _) → i < length jobs.old
+        → slice_index_or jobs.new i d ≡ answered (slice_index_or jobs.old i d) }
 {
     thread::for_each_mut(
         rt,
@@ -117,7 +118,8 @@ impl Crew {
     /// Loads the sums of a word, one for each pulse position of each symbol, at most 16,383.
     pub fn load(&mut self, counts: &[u16])
         requires room { length self.old.loads < self.old.workers }
-        requires counts { length counts.now ≡ codeword_symbols self.old.parameters.order * positions self.old.parameters.order }
+        requires counts { length counts.now
+            ≡ codeword_symbols self.old.parameters.order * positions self.old.parameters.order }
         requires most { All (λ c. c ≤ clamp) counts.now }
         ensures { self.new ≡ record self.old { loads = self.old.loads ++ counts.now ∷ []; decoded = false } }
     {

@@ -87,7 +87,8 @@ impl Job {
 
     /// Takes the next word, which is not decoded.
     pub(crate) fn load(&mut self, counts: &[u16])
-        requires counts { length counts.now ≡ codeword_symbols self.old.parameters.order * positions self.old.parameters.order }
+        requires counts { length counts.now
+            ≡ codeword_symbols self.old.parameters.order * positions self.old.parameters.order }
         requires most { All (λ c. c ≤ clamp) counts.now }
         ensures { self.new ≡ record self.old { sums = counts.now; verdict = None } }
     {

@@ -1,3 +1,5 @@
+//! The marker search as counts come: they are kept until every offset below a period can be scored, and what is answered
+//! then is the answer of every stream that begins so.
 ghost use Rattle.std.specs.Prelude.{◌≡◌, ◌≤◌, ◌<◌, ◌+◌, ◌-◌, ◌++◌, [], ℕ, List, length, IfOk};
 ghost use Rattle.hpe_base.specs.Parameters.{IsValid};
 ghost use Rattle.hpe_base.specs.MarkerSearch.{offset_of};
@@ -122,7 +124,8 @@ impl Finder {
     /// The offset of every stream that begins with the counts that were fed, once there is no room for more.
     pub fn look(&self) -> Found
         ensures need { length self.now.counts < finder_room self.now.parameters → result ≡ Found.Need }
-        ensures found { length self.now.counts ≡ finder_room self.now.parameters → (rest : List ℕ) → result ≡ found_of (offset_of self.now.parameters (self.now.counts ++ rest)) }
+        ensures found { length self.now.counts ≡ finder_room self.now.parameters → (rest : List ℕ)
+            → result ≡ found_of (offset_of self.now.parameters (self.now.counts ++ rest)) }
     {
         if self.room() > 0 {
             return Found::Need;

@@ -31,7 +31,8 @@ fn overhang(p: &Profile) -> usize
 /// Adds to each sum the count that stands as far behind `place` as the sum in its row. A place past the end counts 0.
 fn add_counts(counts: &[u16], place: usize, sums: &mut [u32])
     requires small { (k : ℕ) → k < length sums.old → slice_index sums.old k ≤ 2 ^ 31 }
-    ensures { (k : ℕ) → k < length sums.old → slice_index sums.new k ≡ slice_index sums.old k + slice_index counts.now (place + k) }
+    ensures { (k : ℕ) → k < length sums.old
+        → slice_index sums.new k ≡ slice_index sums.old k + slice_index counts.now (place + k) }
 {
     if place >= counts.len() {
         return;
@@ -47,7 +48,8 @@ fn add_counts(counts: &[u16], place: usize, sums: &mut [u32])
 fn add_sending(p: &Profile, counts: &[u16], start: usize, sums: &mut [u32])
     requires start { start ≤ 2 ^ 27 }
     requires small { (k : ℕ) → k < length sums.old → slice_index sums.old k ≤ 2 ^ 30 }
-    ensures { (k : ℕ) → k < length sums.old → slice_index sums.new k ≡ slice_index sums.old k + sending_sum p.now counts.now (start + k) }
+    ensures { (k : ℕ) → k < length sums.old
+        → slice_index sums.new k ≡ slice_index sums.old k + sending_sum p.now counts.now (start + k) }
 {
     let symbol_slots = p.symbol_slots();
     let marker = p.marker();
@@ -60,7 +62,8 @@ fn add_sending(p: &Profile, counts: &[u16], start: usize, sums: &mut [u32])
 fn add_sums(sums: &[u32], place: usize, scores: &mut [u32])
     requires small { (k : ℕ) → k < length scores.old → slice_index scores.old k ≤ 2 ^ 31 }
     requires terms { (k : ℕ) → k < length sums.now → slice_index sums.now k ≤ 2 ^ 22 }
-    ensures { (k : ℕ) → k < length scores.old → slice_index scores.new k ≡ slice_index scores.old k + slice_index sums.now (place + k) }
+    ensures { (k : ℕ) → k < length scores.old
+        → slice_index scores.new k ≡ slice_index scores.old k + slice_index sums.now (place + k) }
 {
     if place >= sums.len() {
         return;
@@ -79,7 +82,8 @@ fn add_repeats(sums: &[u32], repeat: usize, stride: usize, scores: &mut [u32])
     requires small { (k : ℕ) → k < length scores.old → slice_index scores.old k ≤ 2 ^ 30 }
     requires terms { (k : ℕ) → k < length sums.now → slice_index sums.now k ≤ 2 ^ 22 }
     ensures { (k : ℕ) → k < length scores.old
-        → slice_index scores.new k ≡ slice_index scores.old k + sum (tabulate repeat (λ i. slice_index sums.now (i * stride + k))) }
+        → slice_index scores.new k
+        ≡ slice_index scores.old k + sum (tabulate repeat (λ i. slice_index sums.now (i * stride + k))) }
 {
     for i in 0..repeat {
         add_sums(sums, i * stride, scores);

@@ -6,7 +6,7 @@ use Rattle.hpe_base.specs.Lists.{joined}
 use Rattle.hpe_base.specs.Parameters.{Parameters}
 use Rattle.hpe_base.specs.FrameScan.{Standing, scan, scan_from, scan_step, scan_by, span_bits, all_known, has_marker, octets_of, scan_start}
 use Rattle.hpe_base.proofs.Pieces.{piece_within}
-use Rattle.hpe_frame.proofs.Scanning.{Reaches, reaches_one, reaches_more, reaches_then, reaches_end, step_within, scan-none, scan-suc, scan_end, step_goes_on, scan_from_ends}
+use Rattle.hpe_base.proofs.FrameScan.{Reaches, reaches_one, reaches_more, reaches_then, reaches_end, step_within, scan-none, scan-suc, scan_end, step_goes_on, scan_from_ends}
 use Rattle.hpe_frame.specs.Laws.{frame_if}
 
 -- what stands at a span of the grid: the bits of a frame, or a gap

@@ -1,5 +1,4 @@
 pub mod FrameBits
-pub mod Scanning
 pub mod SpanBits
 pub mod Running
 pub mod Standing

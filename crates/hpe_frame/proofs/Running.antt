@@ -6,7 +6,7 @@ use Rattle.std.specs.Io.KnownBytes.{append_known}
 use Rattle.std.proofs.lemmas.List.Concat.{flat_map-append}
 use Rattle.hpe_base.specs.Parameters.{Parameters}
 use Rattle.hpe_base.specs.FrameScan.{Standing, octets_of, scan_from, span_bits, scan_step, all_known, has_marker}
-use Rattle.hpe_frame.proofs.Scanning.{Reaches, reaches_none, reaches_more, reaches_end, step_within, frames_more}
+use Rattle.hpe_base.proofs.FrameScan.{Reaches, reaches_none, reaches_more, reaches_end, step_within, frames_more}
 use Rattle.hpe_io.specs.Devices.{GrowsByFront}
 use Rattle.hpe_io.proofs.Known.{append_nothing}
 use Rattle.hpe_frame.specs.declared.span.Look.{Look}

@@ -5,7 +5,7 @@ use Rattle.std.proofs.lemmas.List.{drop_at, drop-drop, drop-append-le}
 use Rattle.std.proofs.lemmas.List.Concat.{flat_map-append}
 use Rattle.hpe_base.specs.Parameters.{Parameters, block_bits}
 use Rattle.hpe_base.specs.FrameScan.{Standing, scan_from, scan_start, delivered_frames, marks_of, delivered, block_marks}
-use Rattle.hpe_frame.proofs.Scanning.{scan-none, scan_within, scan_goes_on, later}
+use Rattle.hpe_base.proofs.FrameScan.{scan-none, scan_within, scan_goes_on, later}
 use Rattle.hpe_frame.specs.Scanning.{Scanning, HasScanned, newly, scanned}
 use Rattle.hpe_frame.specs.Looking.{StandsAt}
 use Rattle.hpe_frame.proofs.Running.{all_octets, all_octets-append}

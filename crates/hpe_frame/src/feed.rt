@@ -68,7 +68,8 @@ impl FrameFeed {
         requires within { i < FRAME_MARKER_BITS + OCTET_BITS * self.now.parameters.frame_octets }
         ensures value { result ≡ slice_index (marked self.now) i }
         ensures law { (fed : _) → HasFed self.now fed
-            → result ≡ slice_index (frame_bits self.now.parameters fed (length fed / self.now.parameters.frame_octets - 1)) i }
+            → result
+            ≡ slice_index (frame_bits self.now.parameters fed (length fed / self.now.parameters.frame_octets - 1)) i }
         ensures bit { result < 2 }
     {
         if i < FRAME_MARKER_BITS {

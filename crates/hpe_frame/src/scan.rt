@@ -163,7 +163,8 @@ impl FrameScan {
     /// The number of frames that were put, those of a block that was answered with an error left out.
     pub fn frames(&self) -> u64
         ensures value { result ≡ self.now.frames }
-        ensures law { (blocks : _) → HasScanned self.now blocks → result ≡ length (delivered_frames self.now.parameters blocks) }
+        ensures law { (blocks : _) → HasScanned self.now blocks
+            → result ≡ length (delivered_frames self.now.parameters blocks) }
     {
         self.frames
     }
@@ -191,13 +192,15 @@ impl FrameScan {
             → IfOk result (λ n. length (delivered_frames self.old.parameters (blocks ++ option_copied known.entry ∷ []))
             ≡ length (delivered_frames self.old.parameters blocks) + n) }
         ensures bytes { (blocks : _) → HasScanned self.old blocks
-            → Puts (O.written out.old) (O.written out.new) result (newly self.old.parameters blocks (option_copied known.entry)) }
+            → Puts (O.written out.old) (O.written out.new) result
+            (newly self.old.parameters blocks (option_copied known.entry)) }
         ensures grows { (blocks : _) → delivered self.old.parameters (blocks ++ option_copied known.entry ∷ [])
             ≡ delivered self.old.parameters blocks ++ newly self.old.parameters blocks (option_copied known.entry) }
         // From the first block to this one: `start` is what had been written before.
         ensures written { (start : _) (blocks : _) → HasScanned self.old blocks
             → O.written out.old ≡ append_known start (delivered self.old.parameters blocks)
-            → Puts start (O.written out.new) result (delivered self.old.parameters (blocks ++ option_copied known.entry ∷ [])) }
+            → Puts start (O.written out.new) result (delivered self.old.parameters (blocks
+            ++ option_copied known.entry ∷ [])) }
         ensures failed { OnErr result (self.new.frames ≡ self.old.frames) }
         ensures spent { self.new.spent ≡ is_err result }
         ensures blocks { self.new.blocks ≡ self.old.blocks + 1 }

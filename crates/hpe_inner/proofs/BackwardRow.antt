@@ -16,7 +16,7 @@ use Rattle.hpe_base.proofs.Trellis.{Back, IsRun, back_step, back_last, meet}
 use Rattle.hpe_base.proofs.ParameterLemmas.{positions-high}
 use Rattle.hpe_lane.specs.Edges.{input_bit, edge_of}
 use Rattle.hpe_lane.proofs.Soft.{IsGreatest-score, IsSoft-score}
-use Rattle.hpe_inner.specs.Sweeps.{stage_edge, inner_edge, inner_next, inner_start, IsForwardRow, BackRow, IsSoftAt}
+use Rattle.hpe_inner.specs.Sweeps.{stage_edge, inner_edge, inner_next, inner_start, IsForwardRow, BackRow, IsSoftAt, AreSoft}
 use Rattle.hpe_inner.proofs.BestWord.{walk-within, inner-top}
 use Rattle.hpe_inner.proofs.ForwardRow.{cut_is, cut_long, edge_is}
 
@@ -139,14 +139,14 @@ place_parts j n m two h = (grind (arith, div-lt_iff_lt-mul), omega arith, omega 
 
 -- each place of the word is an input bit of a stage
 pub each_place : (o : Order) (k : ℕ) (counts : List ℕ) (l out : List ℤ) → k ≡ symbol_bits o → 2 ≤ symbol_bits o → length l % symbol_bits o ≡ 0
-    → ((t i : ℕ) → t < length l / k → i < symbol_bits o → IsSoftAt o counts l (t * symbol_bits o + i) (number_at out (t * symbol_bits o + i)))
+    → AreSoft o 0 (length l / k) counts l out
     → (j : ℕ) → j < length l → IsSoftAt o counts l j (number_at out j)
 each_place o k counts l out e two whole soft j h =
     let m : ℕ = symbol_bits o in
     let all : length l ≡ length l / m * m = omega arith in
     let p = place_parts j (length l / m) m two (subst (λ (n : ℕ). j < n) all h) in
     subst (λ (n : ℕ). IsSoftAt o counts l n (number_at out n)) (sym p.2)
-    (soft (j / m) (j % m) (subst (λ (n : ℕ). j / m < length l / n) (sym e) p.0) p.1)
+    (soft (j / m) (j % m) (omega arith) (subst (λ (n : ℕ). j / m < length l / n) (sym e) p.0) p.1)
 
 -- so the value is that of the definition
 pub soft-value : (o : Order) (counts : List ℕ) (l : List ℤ) (j : ℕ) (z : ℤ) → IsSoftAt o counts l j z → z ≡ inner_soft_value o counts l j

@@ -1,5 +1,5 @@
 -- The rows of the forward sweep, stage by stage.
-use Rattle.std.proofs.Common.{◌≡◌, ℕ, zero, suc, ◌+◌, ◌*◌, ◌%◌, ◌^◌, ◌<◌, ◌≤◌, sym, ◌∙◌, ap, subst, refl, arith, ℤ, pos, negsuc, ◌-◌, ◌+ℤ◌, ◌≤ℤ◌, List, [], ◌∷◌, length, take, drop, get_or}
+use Rattle.std.proofs.Common.{⊎_elim, ◌≡◌, ℕ, zero, suc, ◌+◌, ◌*◌, ◌%◌, ◌^◌, ◌<◌, ◌≤◌, sym, ◌∙◌, ap, subst, refl, arith, ℤ, pos, negsuc, ◌-◌, ◌+ℤ◌, ◌≤ℤ◌, List, [], ◌∷◌, length, take, drop, get_or}
 use Rattle.std.proofs.lemmas.Int.{ints}
 use Rattle.std.proofs.lemmas.List.{length-take, length-drop}
 use Rattle.std.proofs.Math.Nat.{mul-le-mul_right}
@@ -9,13 +9,15 @@ use Rattle.hpe_base.specs.Trellis.{IsEdge}
 use Rattle.hpe_base.proofs.Trellis.{Fore, fore_step, fore_first}
 use Rattle.hpe_base.specs.Sizes.{number_at, Within, AllWithin}
 use Rattle.hpe_lane.specs.Edges.{gray_from, edge_of}
-use Rattle.hpe_inner.specs.Sweeps.{stage_edge, inner_edge, inner_next, inner_start, RowWithin, IsForwardRow}
+use Rattle.hpe_base.specs.Parameters.{symbol_bits}
+use Rattle.hpe_base.specs.declared.profile.Order.{Order}
+use Rattle.hpe_base.proofs.ParameterLemmas.{symbol_bits-low, positions-high}
+use Rattle.std.proofs.lemmas.Bool.{cases_lt}
+use Rattle.hpe_lane.specs.Stages.{IsStage}
+use Rattle.hpe_inner.specs.Sweeps.{IsSweepable, stage_edge, inner_edge, inner_next, inner_start, RowWithin, IsForwardRow}
 use Rattle.hpe_base.proofs.Greatest.{IsGreatest-carry}
 use Rattle.hpe_lane.proofs.DifferingBits.{gray-within, list_within}
 use Rattle.hpe_lane.proofs.Sizes.{zero_within, wider, drop_within}
-
-even_stays : (p u : ℕ) → p < 2 → u < 2 → u % 2 < 2
-even_stays p u h k = omega arith
 
 stays : (m p u : ℕ) → p < 2 → u < 2 ^ m → inner_next p u < 2
 stays m p u h k = omega arith
@@ -117,7 +119,7 @@ row_fits most t row cap w (suc (suc s)) h = absurd (omega arith)
 pub cut_is : {A : Type 0} (t size n : ℕ) (xs : List A) → size ≡ n → take ((t + 1) * size - t * size) (drop (t * size) xs) ≡ take n (drop (t * n) xs)
 cut_is t size n xs e = let k : (t + 1) * size - t * size ≡ size = omega arith in ap (λ (j : ℕ). take j (drop (t * size) xs)) k ∙ ap (λ (j : ℕ). take j (drop (t * j) xs)) e
 
-pub cut_long : (t m n : ℕ) (xs : List ℤ) → length xs ≡ n * m → t < n → length (take m (drop (t * m) xs)) ≡ m
+pub cut_long : {A : Type 0} (t m n : ℕ) (xs : List A) → length xs ≡ n * m → t < n → length (take m (drop (t * m) xs)) ≡ m
 cut_long t m n xs e h = let k : (t + 1) * m ≤ n * m = grind (arith, mul-le-mul_right) in simp (length-take, length-drop) (omega arith)
 
 pub below_cap : (t n most : ℕ) → t ≤ n → n * most ≤ 371566440 → t * most ≤ 1100000000
@@ -139,6 +141,27 @@ take_within m zero xs f i = zero_within m
 take_within m (suc n) [] f i = zero_within m
 take_within m (suc n) (x ∷ xs) f zero = f 0
 take_within m (suc n) (x ∷ xs) f (suc i) = take_within m n xs (λ k. f (suc k)) i
+
+few_bits : (m : ℕ) → 2 ^ m ≤ 256 → m ≤ 8
+few_bits m h = ⊎_elim
+    (λ (k : m < 9). omega (arith, k))
+    (λ (k : 9 ≤ m). let p : 2 ^ 9 ≤ 2 ^ m = pow_mono {i = 9} {j = m} k in absurd {A = m ≤ 8} (omega (arith, p, h)))
+    (cases_lt m 9)
+
+-- a stage's slices are a stage; k and size are the lengths that the code cuts by
+pub stage_is : (o : Order) (k size t n : ℕ) (counts : List ℕ) (l : List ℤ) → k ≡ symbol_bits o → size ≡ 2 ^ symbol_bits o → IsSweepable o n counts l → t < n
+    → IsStage (take ((t + 1) * size - t * size) (drop (t * size) counts)) (take ((t + 1) * k - t * k) (drop (t * k) l))
+stage_is o k size t n counts l ek es w lt =
+    let m : ℕ = symbol_bits o in
+    let long : length (take m (drop (t * m) l)) ≡ m = cut_long t m n l w.l_long lt in
+    let exact : IsStage (take (2 ^ m) (drop (t * 2 ^ m) counts)) (take m (drop (t * m) l)) = record {
+      few = subst (λ (j : ℕ). (2 ≤ j) × (j ≤ 8)) (sym long) (symbol_bits-low o, few_bits m (positions-high o));
+      long = cut_long t (2 ^ m) n counts w.counts_long lt ∙ ap (λ (j : ℕ). 2 ^ j) (sym long);
+      most = take_most (2 ^ m) (drop (t * 2 ^ m) counts) (drop_most (t * 2 ^ m) counts w.most);
+      within = take_within 16383 m (drop (t * m) l) (drop_within 16383 (t * m) l w.within);
+    } in
+    subst (λ (x : List ℕ). IsStage x (take ((t + 1) * k - t * k) (drop (t * k) l))) (sym (cut_is t size (2 ^ m) counts es))
+    (subst (IsStage (take (2 ^ m) (drop (t * 2 ^ m) counts))) (sym (cut_is t k m l ek)) exact)
 
 -- what a stage's call says of its slices, said of the whole word; k and size are the lengths that the code cuts by
 pub stage_best : (m k n t size : ℕ) (counts : List ℕ) (l : List ℤ) (row next : List ℤ) → k ≡ m → size ≡ 2 ^ m → length l ≡ n * m → t < n

@@ -1,60 +1,68 @@
-ghost use Rattle.std.specs.Prelude.{◌≡◌, ℕ, ◌+◌, ◌-◌, ◌*◌, ◌%◌, ◌<◌, ◌≤◌, ◌^◌, ◌+ℤ◌, [], length, slice_index, slice_index_or};
-ghost use Rattle.hpe_base.specs.Sizes.{number_at, Within, AllWithin};
-ghost use Rattle.hpe_base.specs.Greatest.{IsGreatest, IsSoft};
-ghost use Rattle.hpe_base.specs.Trellis.{IsEdge};
-ghost use Rattle.hpe_base.specs.Parameters.{clamp, symbol_bits, positions};
-ghost use Rattle.hpe_lane.specs.Edges.{input_bit};
-ghost use Rattle.hpe_lane.specs.Windows.{windows};
-ghost use Rattle.hpe_inner.specs.Sweeps.{stage_edge, IsForwardRow, BackRow, IsSoftAt};
+//! The backward sweep over the trellis of the inner code, and the soft values where both sweeps meet.
+//!
+//! A backward row has for each state the greatest score of the ways from there to the end of the word, which may be
+//! either state. The windows are taken from the last to the first: the rows of a window are made again from the row
+//! that the forward sweep kept, and then each stage is met from its end. Between the two rows of a stage, the best edge
+//! with an input bit of 1 less the best with a 0 gives the soft value of the bit.
+ghost use Rattle.std.specs.Prelude.{◌≡◌, ℕ, ◌+◌, ◌-◌, ◌*◌, ◌<◌, ◌≤◌, ◌^◌, length};
+ghost use Rattle.hpe_base.specs.Parameters.{symbol_bits};
+ghost use Rattle.hpe_lane.specs.Bounds.{IsRow, fore_most, row_most};
+ghost use Rattle.hpe_lane.specs.Stages.{AreStageSoft, IsBackStep, IsStage};
+ghost use Rattle.hpe_lane.specs.Windows.{window, windows};
+ghost use Rattle.hpe_inner.specs.Sweeps.{stage_edge, AreForwardRows, AreKeptRows, AreSame, AreSoft, IsBackwardRow, IsSweepable};
 
 use crate::forward::window_rows;
-use hpe_base::{Order, Steps};
+use crate::word::{Between, Span, Stage, Word};
+use hpe_base::Steps;
 use hpe_lane::{WINDOW, edge_scores, step_back};
 use std::sync::ledger::Ledger;
 
-/// The soft values of a window, from its last stage to its first, and the row before it.
+/// Writes the soft values of a window, from its last stage to its first, by the rows before its stages and the row
+/// after it, and gives the row before it.
 fn window_back<L: Ledger, const BITS: usize>(
-    order: Order,
-    n: usize,
-    start: usize,
-    count: usize,
-    counts: &[u16],
-    l: &[i32],
+    word: Word,
+    span: Span,
     rows: &[[i32; 2]],
     back: [i32; 2],
     out: &mut [i32],
     steps: &mut Steps<L>,
 ) -> [i32; 2]
-    requires inside { start + count ≤ n }
-    requires counts { length counts.now ≡ n * positions order }
-    requires l { length l.now ≡ n * symbol_bits order }
-    requires out { length out.old ≡ n * symbol_bits order }
-    requires rows_long { count ≤ length rows.now }
-    requires rows { (i : ℕ) → i < count → IsForwardRow (symbol_bits order) (start + i) counts.now l.now (slice_index_or rows.now i []) }
-    requires later { BackRow (symbol_bits order) (start + count) (n - (start + count)) counts.now l.now back }
-    requires short { n * ((symbol_bits order + 1) * clamp) ≤ 371566440 }
-    requires most { (i : ℕ) → slice_index counts.now i ≤ clamp }
-    requires within { AllWithin clamp l.now }
-    requires room { steps.old + count ≤ 2 ^ 60 }
-    ensures row { BackRow (symbol_bits order) start (n - start) counts.now l.now result }
-    ensures soft { (t i : ℕ) → start ≤ t → t < start + count → i < symbol_bits order → IsSoftAt order counts.now l.now (t * symbol_bits order + i) (number_at out.new (t * symbol_bits order + i)) }
-    ensures others { (t i : ℕ) → start + count ≤ t → t < n → i < symbol_bits order → number_at out.new (t * symbol_bits order + i) ≡ number_at out.old (t * symbol_bits order + i) }
-    ensures cost { steps.new ≡ steps.old + count }
+    requires word { IsSweepable word.order word.symbols word.counts.now word.l.now }
+    requires inside { span.start + span.count ≤ word.symbols }
+    requires out { length out.old ≡ length word.l.now }
+    requires rows_long { span.count ≤ length rows.now }
+    requires rows { AreForwardRows (symbol_bits word.order) span.start span.count word.counts.now word.l.now rows.now }
+    requires later { IsBackwardRow (symbol_bits word.order) (span.start + span.count) word.symbols
+        word.counts.now word.l.now back }
+    requires room { steps.old + span.count ≤ 2 ^ 60 }
+    ensures row { IsBackwardRow (symbol_bits word.entry.order) span.start word.entry.symbols
+        word.entry.counts.now word.entry.l.now result }
+    ensures soft { AreSoft word.entry.order span.start (span.start + span.count)
+        word.entry.counts.now word.entry.l.now out.new }
+    ensures others { AreSame (symbol_bits word.entry.order) (span.start + span.count) word.entry.symbols
+        out.old out.new }
+    ensures cost { steps.new ≡ steps.old + span.count }
 {
-    let m = order.bits() as usize;
-    let size = order.slots();
+    let m = word.order.bits() as usize;
+    let size = word.order.slots();
     let mut from0 = [0; 256];
     let mut from1 = [0; 256];
     let mut even = back[0];
     let mut odd = back[1];
-    for k in 0..count {
-        let i = count - 1 - k;
-        let t = start + i;
+    for k in 0..span.count {
+        let i = span.count - 1 - k;
+        let t = span.start + i;
+        let stage = Stage {
+            counts: &word.counts[t * size..(t + 1) * size],
+            l: &word.l[t * m..(t + 1) * m],
+        };
+        let between = Between {
+            fore: rows[i],
+            back: [even, odd],
+        };
         let next = stage_back::<L, BITS>(
-            &counts[t * size..(t + 1) * size],
-            &l[t * m..(t + 1) * m],
-            rows[i],
-            [even, odd],
+            stage,
+            between,
             &mut out[t * m..(t + 1) * m],
             &mut from0[..size],
             &mut from1[..size],
@@ -66,49 +74,32 @@ fn window_back<L: Ledger, const BITS: usize>(
     [even, odd]
 }
 
-/// The soft values, from the last window to the first: the rows of a window are made again from the row before it.
+/// Writes the soft values, from the last window to the first, whose rows are made again from the row before it.
 pub fn backward_sweep<L: Ledger, const BITS: usize>(
-    order: Order,
-    n: usize,
-    counts: &[u16],
-    l: &[i32],
+    word: Word,
     kept: &[[i32; 2]],
-    window: &mut [[i32; 2]],
+    rows: &mut [[i32; 2]],
     out: &mut [i32],
     steps: &mut Steps<L>,
 )
-    requires counts { length counts.now ≡ n * positions order }
-    requires l { length l.now ≡ n * symbol_bits order }
-    requires out { length out.old ≡ n * symbol_bits order }
-    requires kept_long { length kept.now ≡ windows n }
-    requires kept { (w : ℕ) → w < windows n → IsForwardRow (symbol_bits order) (64 * w) counts.now l.now (slice_index_or kept.now w []) }
-    requires window { length window.old ≡ 64 }
-    requires short { n * ((symbol_bits order + 1) * clamp) ≤ 371566440 }
-    requires most { (i : ℕ) → slice_index counts.now i ≤ clamp }
-    requires within { AllWithin clamp l.now }
-    requires room { steps.old + 2 * n ≤ 2 ^ 60 }
-    ensures soft { (t i : ℕ) → t < n → i < symbol_bits order → IsSoftAt order counts.now l.now (t * symbol_bits order + i) (number_at out.new (t * symbol_bits order + i)) }
-    ensures cost { steps.new ≡ steps.old + 2 * n }
+    requires word { IsSweepable word.order word.symbols word.counts.now word.l.now }
+    requires out { length out.old ≡ length word.l.now }
+    requires kept_long { length kept.now ≡ windows word.symbols }
+    requires kept { AreKeptRows (symbol_bits word.order) word.symbols word.counts.now word.l.now kept.now }
+    requires rows { length rows.old ≡ window }
+    requires room { steps.old + 2 * word.symbols ≤ 2 ^ 60 }
+    ensures soft { AreSoft word.entry.order 0 word.entry.symbols word.entry.counts.now word.entry.l.now out.new }
+    ensures cost { steps.new ≡ steps.old + 2 * word.entry.symbols }
 {
     let mut even = 0;
     let mut odd = 0;
     for k in 0..kept.len() {
         let w = kept.len() - 1 - k;
         let start = WINDOW * w;
-        let count = WINDOW.min(n - start);
-        let _ = window_rows::<L, BITS>(order, n, start, count, counts, l, kept[w], window, steps);
-        let next = window_back::<L, BITS>(
-            order,
-            n,
-            start,
-            count,
-            counts,
-            l,
-            window,
-            [even, odd],
-            out,
-            steps,
-        );
+        let count = WINDOW.min(word.symbols - start);
+        let span = Span { start, count };
+        let _ = window_rows::<L, BITS>(word, span, kept[w], rows, steps);
+        let next = window_back::<L, BITS>(word, span, rows, [even, odd], out, steps);
         even = next[0];
         odd = next[1];
     }
@@ -117,29 +108,26 @@ pub fn backward_sweep<L: Ledger, const BITS: usize>(
 /// The row before a stage, from the row after it, and the soft values of the stage's input bits.
 #[inline(always)]
 fn stage_back<L: Ledger, const BITS: usize>(
-    counts: &[u16],
-    l: &[i32],
-    fore: [i32; 2],
-    back: [i32; 2],
+    stage: Stage,
+    between: Between,
     out: &mut [i32],
     from0: &mut [i32],
     from1: &mut [i32],
     steps: &mut Steps<L>,
 ) -> [i32; 2]
-    requires few { (2 ≤ length l.now) × (length l.now ≤ 8) }
-    requires counts { length counts.now ≡ 2 ^ length l.now }
-    requires out { length out.old ≡ length l.now }
-    requires most { (i : ℕ) → slice_index counts.now i ≤ clamp }
-    requires l { AllWithin clamp l.now }
-    requires fore { (s : ℕ) → s < 2 → Within 1100000000 (number_at fore s) }
-    requires back { (s : ℕ) → s < 2 → Within 600000000 (number_at back s) }
+    requires stage { IsStage stage.counts.now stage.l.now }
+    requires out { length out.old ≡ length stage.l.now }
+    requires fore { IsRow 2 fore_most between.fore }
+    requires back { IsRow 2 row_most between.back }
+    requires from0 { length from0.old ≡ 2 ^ length stage.l.now }
+    requires from1 { length from1.old ≡ 2 ^ length stage.l.now }
     requires room { steps.old < 2 ^ 60 }
-    requires from0 { length from0.old ≡ 2 ^ length l.now }
-    requires from1 { length from1.old ≡ 2 ^ length l.now }
-    ensures row { (s : ℕ) → s < 2 → IsGreatest (λ (v : ℕ). v < 2 ^ length l.now) (λ v. stage_edge counts.now l.now s v +ℤ number_at back (v % 2)) (number_at result s) }
-    ensures soft { (i : ℕ) → i < length l.now → IsSoft (IsEdge (2 ^ length l.now) 2) (λ (e : ℕ × ℕ). input_bit (length l.now) i e.0 e.1) (λ e. number_at fore e.0 +ℤ (stage_edge counts.now l.now e.0 e.1 +ℤ number_at back (e.1 % 2))) (number_at out.new i) }
+    ensures row { IsBackStep (2 ^ length stage.entry.l.now)
+        (stage_edge stage.entry.counts.now stage.entry.l.now) between.back result }
+    ensures soft { AreStageSoft (length stage.entry.l.now) (2 ^ length stage.entry.l.now)
+        (stage_edge stage.entry.counts.now stage.entry.l.now) between.fore between.back out.new }
     ensures step { steps.new ≡ steps.old + 1 }
 {
-    edge_scores(counts, l, from0, from1);
-    step_back(fore, from0, from1, back, out, steps)
+    edge_scores(stage.counts, stage.l, from0, from1);
+    step_back(between.fore, from0, from1, between.back, out, steps)
 }

@@ -1,56 +1,61 @@
-ghost use Rattle.std.specs.Prelude.{◌≡◌, ℕ, ◌+◌, ◌*◌, ◌%◌, ◌<◌, ◌≤◌, ◌^◌, ◌+ℤ◌, [], length, slice_index, slice_index_or};
-ghost use Rattle.hpe_base.specs.Sizes.{number_at, Within, AllWithin};
-ghost use Rattle.hpe_base.specs.Greatest.{IsGreatest};
-ghost use Rattle.hpe_base.specs.Trellis.{IsEdge};
-ghost use Rattle.hpe_base.specs.Parameters.{clamp, symbol_bits, positions};
-ghost use Rattle.hpe_lane.specs.Windows.{windows};
-ghost use Rattle.hpe_inner.specs.Sweeps.{stage_edge, IsForwardRow};
+//! The forward sweep over the trellis of the inner code.
+//!
+//! A row has a number for each of the two states, which are the last bit of the accumulator: the greatest score of the
+//! ways that lead there from the start of the word. A stage has a symbol of m bits, whose edges lead to the state that
+//! is its last bit.
+//!
+//! Only the row before each window of 64 stages is kept. The backward sweep makes the rows of a window again when it
+//! comes there: a third visit of each stage, for a row in 64 of the memory.
+ghost use Rattle.std.specs.Prelude.{◌≡◌, ℕ, ◌+◌, ◌<◌, ◌≤◌, ◌^◌, length};
+ghost use Rattle.hpe_base.specs.Parameters.{symbol_bits};
+ghost use Rattle.hpe_lane.specs.Bounds.{IsRow, fore_most};
+ghost use Rattle.hpe_lane.specs.Stages.{IsForwardStep, IsStage};
+ghost use Rattle.hpe_lane.specs.Windows.{window, windows};
+ghost use Rattle.hpe_inner.specs.Sweeps.{stage_edge, AreForwardRows, AreKeptRows, IsForwardRow, IsSweepable};
 
-use hpe_base::{Order, Steps};
+use crate::word::{Span, Stage, Word};
+use hpe_base::Steps;
 use hpe_lane::{WINDOW, edge_scores, step_forward};
 use std::sync::ledger::Ledger;
 
 /// The row before the first stage: a word starts in state 0, and no word can make up for another start.
 const START: [i32; 2] = [0, -1_073_741_824];
 
-/// The rows before the stages of a window, of which there are `count`, and the row after the window.
+/// Writes the rows before the stages of a window, and gives the row after the window.
 #[inline(always)]
 pub fn window_rows<L: Ledger, const BITS: usize>(
-    order: Order,
-    n: usize,
-    start: usize,
-    count: usize,
-    counts: &[u16],
-    l: &[i32],
+    word: Word,
+    span: Span,
     row: [i32; 2],
     rows: &mut [[i32; 2]],
     steps: &mut Steps<L>,
 ) -> [i32; 2]
-    requires inside { start + count ≤ n }
-    requires counts { length counts.now ≡ n * positions order }
-    requires l { length l.now ≡ n * symbol_bits order }
-    requires rows { count ≤ length rows.old }
-    requires first { IsForwardRow (symbol_bits order) start counts.now l.now row }
-    requires short { n * ((symbol_bits order + 1) * clamp) ≤ 371566440 }
-    requires most { (i : ℕ) → slice_index counts.now i ≤ clamp }
-    requires within { AllWithin clamp l.now }
-    requires room { steps.old + count ≤ 2 ^ 60 }
-    ensures rows { (i : ℕ) → i < count → IsForwardRow (symbol_bits order) (start + i) counts.now l.now (slice_index_or rows.new i []) }
-    ensures next { IsForwardRow (symbol_bits order) (start + count) counts.now l.now result }
-    ensures cost { steps.new ≡ steps.old + count }
+    requires word { IsSweepable word.order word.symbols word.counts.now word.l.now }
+    requires inside { span.start + span.count ≤ word.symbols }
+    requires rows { span.count ≤ length rows.old }
+    requires first { IsForwardRow (symbol_bits word.order) span.start word.counts.now word.l.now row }
+    requires room { steps.old + span.count ≤ 2 ^ 60 }
+    ensures rows { AreForwardRows (symbol_bits word.entry.order) span.start span.count
+        word.entry.counts.now word.entry.l.now rows.new }
+    ensures next { IsForwardRow (symbol_bits word.entry.order) (span.start + span.count)
+        word.entry.counts.now word.entry.l.now result }
+    ensures cost { steps.new ≡ steps.old + span.count }
 {
-    let m = order.bits() as usize;
-    let size = order.slots();
+    let m = word.order.bits() as usize;
+    let size = word.order.slots();
     let mut from0 = [0; 256];
     let mut from1 = [0; 256];
     let mut even = row[0];
     let mut odd = row[1];
-    for i in 0..count {
-        let t = start + i;
+    for i in 0..span.count {
+        let t = span.start + i;
         rows[i] = [even, odd];
+        let stage = Stage {
+            counts: &word.counts[t * size..(t + 1) * size],
+            l: &word.l[t * m..(t + 1) * m],
+        };
         let next = stage_forward::<L, BITS>(
-            &counts[t * size..(t + 1) * size],
-            &l[t * m..(t + 1) * m],
+            stage,
             [even, odd],
             &mut from0[..size],
             &mut from1[..size],
@@ -62,70 +67,51 @@ pub fn window_rows<L: Ledger, const BITS: usize>(
     [even, odd]
 }
 
-/// The row before each window, with memory for the rows of one.
+/// Writes the row before each window, with memory for the rows of one.
 pub fn forward_sweep<L: Ledger, const BITS: usize>(
-    order: Order,
-    n: usize,
-    counts: &[u16],
-    l: &[i32],
+    word: Word,
     kept: &mut [[i32; 2]],
-    window: &mut [[i32; 2]],
+    rows: &mut [[i32; 2]],
     steps: &mut Steps<L>,
 )
-    requires counts { length counts.now ≡ n * positions order }
-    requires l { length l.now ≡ n * symbol_bits order }
-    requires kept { length kept.old ≡ windows n }
-    requires window { length window.old ≡ 64 }
-    requires short { n * ((symbol_bits order + 1) * clamp) ≤ 371566440 }
-    requires most { (i : ℕ) → slice_index counts.now i ≤ clamp }
-    requires within { AllWithin clamp l.now }
-    requires room { steps.old + n ≤ 2 ^ 60 }
-    ensures kept { (w : ℕ) → w < windows n → IsForwardRow (symbol_bits order) (64 * w) counts.now l.now (slice_index_or kept.new w []) }
-    ensures cost { steps.new ≡ steps.old + n }
+    requires word { IsSweepable word.order word.symbols word.counts.now word.l.now }
+    requires kept { length kept.old ≡ windows word.symbols }
+    requires rows { length rows.old ≡ window }
+    requires room { steps.old + word.symbols ≤ 2 ^ 60 }
+    ensures kept { AreKeptRows (symbol_bits word.entry.order) word.entry.symbols
+        word.entry.counts.now word.entry.l.now kept.new }
+    ensures cost { steps.new ≡ steps.old + word.entry.symbols }
 {
     let mut even = START[0];
     let mut odd = START[1];
     for w in 0..kept.len() {
         let start = WINDOW * w;
-        let count = WINDOW.min(n - start);
+        let count = WINDOW.min(word.symbols - start);
         kept[w] = [even, odd];
-        let next = window_rows::<L, BITS>(
-            order,
-            n,
-            start,
-            count,
-            counts,
-            l,
-            [even, odd],
-            window,
-            steps,
-        );
+        let next = window_rows::<L, BITS>(word, Span { start, count }, [even, odd], rows, steps);
         even = next[0];
         odd = next[1];
     }
 }
 
-/// The row after a stage, from the row before it and the counts and numbers of the stage.
+/// The row after a stage, from the row before it.
 #[inline(always)]
 fn stage_forward<L: Ledger, const BITS: usize>(
-    counts: &[u16],
-    l: &[i32],
+    stage: Stage,
     row: [i32; 2],
     from0: &mut [i32],
     from1: &mut [i32],
     steps: &mut Steps<L>,
 ) -> [i32; 2]
-    requires few { (2 ≤ length l.now) × (length l.now ≤ 8) }
-    requires counts { length counts.now ≡ 2 ^ length l.now }
-    requires from0 { length from0.old ≡ 2 ^ length l.now }
-    requires from1 { length from1.old ≡ 2 ^ length l.now }
-    requires most { (i : ℕ) → slice_index counts.now i ≤ clamp }
-    requires l { AllWithin clamp l.now }
-    requires row { (s : ℕ) → s < 2 → Within 1100000000 (number_at row s) }
+    requires stage { IsStage stage.counts.now stage.l.now }
+    requires row { IsRow 2 fore_most row }
+    requires from0 { length from0.old ≡ 2 ^ length stage.l.now }
+    requires from1 { length from1.old ≡ 2 ^ length stage.l.now }
     requires room { steps.old < 2 ^ 60 }
-    ensures row { (b : ℕ) → b < 2 → IsGreatest (λ (e : ℕ × ℕ). IsEdge (2 ^ length l.now) 2 e × (e.1 % 2 ≡ b)) (λ e. number_at row e.0 +ℤ stage_edge counts.now l.now e.0 e.1) (number_at result b) }
+    ensures row { IsForwardStep (2 ^ length stage.entry.l.now)
+        (stage_edge stage.entry.counts.now stage.entry.l.now) row result }
     ensures step { steps.new ≡ steps.old + 1 }
 {
-    edge_scores(counts, l, from0, from1);
+    edge_scores(stage.counts, stage.l, from0, from1);
     step_forward(row, from0, from1, steps)
 }

@@ -1,4 +1,4 @@
-// The law of the sizes of inner scores, as the contract of a function that does nothing.
+//! The law of the sizes of inner scores, as the contract of a function that does nothing.
 ghost use Rattle.hpe_inner.specs.Laws.{InnerScoresAreBounded};
 
 /// With counts of at most 16,383 and a-priori numbers of at most that size, for as many symbols as a codeword has at

@@ -12,6 +12,7 @@ mod laws;
 mod soft;
 #[cfg(test)]
 mod tests;
+mod word;
 
 pub use laws::inner_scores_are_bounded;
 pub use soft::{inner_rows, inner_soft};

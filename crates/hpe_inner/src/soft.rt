@@ -1,3 +1,8 @@
+//! The soft values of a word of the inner code, by a forward and a backward sweep in windows.
+//!
+//! The sweeps stand once for each order: the compiler then knows how many symbols a stage has, and writes out its
+//! loops.
+//! What a word costs is three visits of each stage: one forward, and two from its window's end.
 ghost use Rattle.std.specs.Prelude.{◌≡◌, ℕ, ◌+◌, ◌*◌, ◌%◌, ◌<◌, ◌≤◌, ◌^◌, All, IsSome, length};
 ghost use Rattle.hpe_base.specs.Parameters.{clamp, symbol_bits, positions, codeword_symbols};
 ghost use Rattle.hpe_base.specs.Sizes.{number_at, AllWithin};
@@ -7,6 +12,7 @@ ghost use Rattle.hpe_inner.specs.Lengths.{symbols_in, inner_rows};
 
 use crate::backward::backward_sweep;
 use crate::forward::forward_sweep;
+use crate::word::Word;
 use hpe_base::{Order, Steps};
 use hpe_lane::{WINDOW, sweep_rows};
 use std::sync::ledger::Ledger;
@@ -22,8 +28,8 @@ pub fn inner_rows(symbols: usize) -> usize
 
 /// The soft values of a word of the inner code.
 ///
-/// `counts` has the photon counts of each symbol's pulse positions, `l` the a-priori numbers of the word's bits, as many
-/// bits a symbol as `order` says. `out` gets a soft value for each bit, and `rows` is memory for the sweeps, of
+/// `counts` has the photon counts of each symbol's pulse positions, `l` the a-priori numbers of the word's bits, as
+/// many bits a symbol as `order` says. `out` gets a soft value for each bit, and `rows` is memory for the sweeps, of
 /// [`inner_rows`] rows. Each sweep adds one to `steps` for each symbol; a caller that counts nothing opens the counter
 /// with `Steps::<Brand>::new(Blank::new(1))`.
 pub fn inner_soft<L: Ledger>(
@@ -82,6 +88,12 @@ fn soft_of<L: Ledger, const BITS: usize>(
 {
     let n = l.len() / order.bits() as usize;
     let (kept, window) = rows.split_at_mut(n.div_ceil(WINDOW));
-    forward_sweep::<L, BITS>(order, n, counts, l, kept, window, steps);
-    backward_sweep::<L, BITS>(order, n, counts, l, kept, window, out, steps);
+    let word = Word {
+        order,
+        symbols: n,
+        counts,
+        l,
+    };
+    forward_sweep::<L, BITS>(word, kept, window, steps);
+    backward_sweep::<L, BITS>(word, kept, window, out, steps);
 }

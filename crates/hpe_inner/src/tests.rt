@@ -1,5 +1,7 @@
+//! Soft values of short words beside the scores of all words, and of longer ones beside sweeps that keep each row.
 ghost use Rattle.std.specs.Prelude.{◌≡◌, ◌<◌, ◌≤◌, ◌*◌, true, length};
 ghost use Rattle.hpe_base.specs.Sizes.{AllWithin};
+ghost use Rattle.hpe_base.specs.Parameters.{clamp};
 
 use crate::{inner_rows, inner_soft};
 use hpe_base::{CODE_BITS, Order, Steps};
@@ -11,7 +13,7 @@ use std::test::Fail;
 
 /// Whether each number is at most 16,383 in size.
 fn are_small(l: &[i32]) -> bool
-    ensures { result ≡ true → AllWithin 16383 l.now }
+    ensures { result ≡ true → AllWithin clamp l.now }
 {
     for number in l {
         if *number < -16_383 || 16_383 < *number {

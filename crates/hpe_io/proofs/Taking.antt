@@ -101,23 +101,3 @@ pub come_most : (s : IntakeState) (start left : Option (List ℕ)) (octets : Lis
 come_most s start left octets n h le = let count : length octets ≡ s.taken = h.count in record { octets = octets; count = omega arith; lost = h.lost }
 
 -- ---- octets behind those that are kept
-
--- so many were taken behind those that are kept
-pub count_behind : (old new : Option (List ℕ)) (kept : List ℕ) (n m : ℕ) → length kept + n ≡ m → TakesCount old new n → TakesCount (prepend_known kept old) new m
-count_behind old new kept n m e t = record {
-  octets = kept ++ t.octets;
-  count = omega (arith, length-append kept t.octets, t.count);
-  lost = ap (prepend_known kept) t.lost ∙ prepend_twice kept t.octets new;
-}
-
--- at most so many were taken behind those that are kept
-pub most_behind : (old new : Option (List ℕ)) (kept : List ℕ) (n m : ℕ) → length kept + n ≤ m → TakesAtMost old new n → TakesAtMost (prepend_known kept old) new m
-most_behind old new kept n m h t = record {
-  octets = kept ++ t.octets;
-  count = omega (arith, length-append kept t.octets, t.count);
-  lost = ap (prepend_known kept) t.lost ∙ prepend_twice kept t.octets new;
-}
-
--- all were read behind those that are kept
-pub reads_behind : (old new : Option (List ℕ)) (kept rest : List ℕ) → ReadsAll old new rest → ReadsAll (prepend_known kept old) new (kept ++ rest)
-reads_behind old new kept rest r = record { lost = ap (prepend_known kept) r.lost ∙ prepend_twice kept rest new; ended = r.ended }

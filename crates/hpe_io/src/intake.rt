@@ -3,7 +3,7 @@
 //! Whoever reads an input calls [`Intake::next`] and [`Intake::piece`] in turn, and is spared what each such loop would
 //! need: a buffer, the count of what came, and the octet past the limit. That octet is asked for alone, once the limit
 //! is reached, so that each piece is within the limit as a whole.
-ghost use Rattle.std.specs.Prelude.{◌≡◌, ◌<◌, ◌≤◌, ◌+◌, ◌-◌, ◌^◌, ◌↔◌, ◌++◌, [], length, min, IfOk, IsErrOf, IsTrue, OnErr, OnOk, false};
+ghost use Rattle.std.specs.Prelude.{◌≡◌, ◌<◌, ◌≤◌, ◌+◌, ◌-◌, ◌^◌, ◌++◌, [], length, min, IfOk, IsErrOf, IsTrue, OnErr, OnOk, false};
 ghost use Rattle.std.specs.Io.KnownBytes.{IsAtEnd};
 ghost use Rattle.hpe_io.specs.Devices.{Takes};
 ghost use Rattle.hpe_io.specs.Intake.{HasCome, HasIntakeCause, HasStopped};

@@ -1,5 +1,5 @@
 //! An adapter over the folder of the process. It tells nothing of the texts.
-ghost use Rattle.std.specs.Prelude.{◌≡◌, ◌≢◌, ◌≤◌, Err, OnErr, None, [], length};
+ghost use Rattle.std.specs.Prelude.{◌≡◌, ◌≢◌, Err, OnErr, None, []};
 ghost use Rattle.hpe_io.specs.Devices.{next_count};
 ghost use Rattle.hpe_io.specs.Shelves.{HasShelfCause};
 ghost use Rattle.hpe_io.specs.System.{shelf_faults};

@@ -9,8 +9,7 @@ use Rattle.std.specs.Int.{int_max}
 use Rattle.std.proofs.lemmas.Int.{ints}
 use Rattle.hpe_base.specs.Sizes.{number_at, Within, AllWithin}
 use Rattle.hpe_base.specs.Greatest.{IsGreatest, IsSoft}
-use Rattle.std.specs.Int.Signed.{≤ℤ_refl}
-use Rattle.hpe_base.proofs.Greatest.{IsGreatest-join, max_cases, max_left, le_trans}
+use Rattle.hpe_base.proofs.Greatest.{IsGreatest-join, max_cases, max_left, le_trans, IsGreatest-single}
 use Rattle.hpe_lane.specs.Edges.{gray_from, input_bit}
 use Rattle.hpe_lane.specs.Eights.{top_of, soft_of_eight}
 use Rattle.hpe_lane.specs.Near.{Near}
@@ -117,11 +116,8 @@ none_one e = absurd (omega (arith, e))
 one_none : {A : Type 0} → ◌≡◌ {A = ℕ} 1 0 → A
 one_none e = absurd (omega (arith, e))
 
-single : (f : ℕ → ℤ) (w : ℕ) → IsGreatest (λ (v : ℕ). v ≡ w) f (f w)
-single f w = record { reached = (w, (refl, refl)); bound = λ v e. subst (λ (u : ℕ). f u ≤ℤ f w) (sym e) (≤ℤ_refl (f w)) }
-
 double : (f : ℕ → ℤ) (a b : ℕ) → IsGreatest (λ (v : ℕ). (v ≡ a) ⊎ (v ≡ b)) f (int_max (f a) (f b))
-double f a b = IsGreatest-join (λ v e. inl e) (λ v e. inr e) (λ v p. p) (single f a) (single f b)
+double f a b = IsGreatest-join (λ v e. inl e) (λ v e. inr e) (λ v p. p) (IsGreatest-single f a) (IsGreatest-single f b)
 
 greatest_four : (P : ℕ → Type 0) (f : ℕ → ℤ) (a b c d : ℕ) → P a → P b → P c → P d → ((v : ℕ) → P v → IsOneOf a b c d v) → IsGreatest P f (top_of f a b c d)
 greatest_four P f a b c d pa pb pc pd only =

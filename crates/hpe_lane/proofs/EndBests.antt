@@ -1,12 +1,11 @@
 -- The greatest scores of the even places and of the odd ones, by lanes of eight.
-use Rattle.std.proofs.Common.{◌≡◌, ◌≢◌, ℕ, ◌+◌, ◌*◌, ◌%◌, ◌<◌, ◌≤◌, ◌⊎◌, inl, inr, ⊎_elim, sym, ◌∙◌, ap, subst, arith, refl, ℤ, pos, ◌≤ℤ◌, List, take}
+use Rattle.std.proofs.Common.{◌≡◌, ◌≢◌, ℕ, ◌+◌, ◌*◌, ◌%◌, ◌<◌, ◌≤◌, ◌⊎◌, inl, inr, ⊎_elim, sym, ◌∙◌, ap, subst, arith, ℤ, pos, List, take}
 use Rattle.std.specs.Int.{int_max}
 use Rattle.std.proofs.lemmas.Bool.{cases_lt}
 use Rattle.std.proofs.lemmas.List.{get_or-take}
-use Rattle.std.specs.Int.Signed.{≤ℤ_refl}
 use Rattle.hpe_base.specs.Sizes.{number_at}
 use Rattle.hpe_base.specs.Greatest.{IsGreatest}
-use Rattle.hpe_base.proofs.Greatest.{IsGreatest-join, IsGreatest-widen}
+use Rattle.hpe_base.proofs.Greatest.{IsGreatest-join, IsGreatest-widen, IsGreatest-single}
 use Rattle.hpe_lane.specs.Edges.{HasParity}
 use Rattle.hpe_lane.proofs.Sums.{parity_of_one}
 use Rattle.hpe_lane.proofs.OneLane.{ends_of}
@@ -19,19 +18,16 @@ InLane8 k i v = (v < 8 * k) × (v % 8 ≡ i)
 abbrev pub IsEnd : ℕ → ℕ → ℕ → Type 0
 IsEnd n b v = (v < n) × (v % 2 ≡ b)
 
-only : (f : ℕ → ℤ) (w : ℕ) → IsGreatest (λ (v : ℕ). v ≡ w) f (f w)
-only f w = record { reached = (w, (refl, refl)); bound = λ v e. subst (λ (u : ℕ). f u ≤ℤ f w) (sym e) (≤ℤ_refl (f w)) }
-
 pub lane_first : (xs : List ℤ) (i : ℕ) → i < 8 → IsGreatest (InLane8 1 i) (number_at xs) (number_at (take 8 xs) i)
 lane_first xs i h =
     subst (IsGreatest (InLane8 1 i) (number_at xs)) (sym (get_or-take 8 xs i (pos 0) h))
-    (IsGreatest-widen (λ v e. (omega arith, omega arith)) (λ v p. omega (arith, p.0, p.1)) (only (number_at xs) i))
+    (IsGreatest-widen (λ v e. (omega arith, omega arith)) (λ v p. omega (arith, p.0, p.1)) (IsGreatest-single (number_at xs) i))
 
 pub lane_more : (f : ℕ → ℤ) (k i : ℕ) (z : ℤ) → i < 8 → IsGreatest (InLane8 k i) f z → IsGreatest (InLane8 (k + 1) i) f (int_max z (f (8 * k + i)))
 lane_more f k i z h g =
     IsGreatest-join (λ v p. (omega (arith, p.0), p.1)) (λ v e. (omega arith, omega arith))
     (λ v p. ⊎_elim (λ (a : v < 8 * k). inl (a, p.1)) (λ (b : 8 * k ≤ v). inr (omega (arith, p.0, p.1))) (cases_lt v (8 * k)))
-    g (only f (8 * k + i))
+    g (IsGreatest-single f (8 * k + i))
 
 fours : (v b : ℕ) → b < 4 → v % 4 ≡ b → (v % 8 ≡ b) ⊎ (v % 8 ≡ 4 + b)
 fours v b h e = ⊎_elim (λ (a : v % 8 < 4). inl (omega arith)) (λ (a : 4 ≤ v % 8). inr (omega arith)) (cases_lt (v % 8) 4)
@@ -65,7 +61,7 @@ pub end_take : (f : ℕ → ℤ) (v b : ℕ) (z : ℤ) → v % 2 ≡ b → IsGre
 end_take f v b z e g =
     IsGreatest-join (λ w p. (omega (arith, p.0), p.1)) (λ w q. (omega arith, ap (λ (n : ℕ). n % 2) q ∙ e))
     (λ w p. ⊎_elim (λ (a : w < v). inl (a, p.1)) (λ (a : v ≤ w). inr (omega (arith, p.0))) (cases_lt w v))
-    g (only f v)
+    g (IsGreatest-single f v)
 
 pub end_pass : (f : ℕ → ℤ) (v b : ℕ) (z : ℤ) → v % 2 ≢ b → IsGreatest (IsEnd v b) f z → IsGreatest (IsEnd (v + 1) b) f z
 end_pass f v b z ne g =

@@ -1,5 +1,5 @@
 -- Folding a list of scores by the input bits of its places.
-use Rattle.std.proofs.Common.{◌≡◌, ℕ, zero, suc, ◌+◌, ◌-◌, ◌*◌, ◌/◌, ◌%◌, ◌^◌, ◌<◌, ◌≤◌, ⊎_elim, sym, ◌∙◌, ap, ap₂, subst, refl, arith, ℤ, pos, ◌+ℤ◌, ◌-ℤ◌, ◌≤ℤ◌, List, length, ◌++◌, length-append}
+use Rattle.std.proofs.Common.{◌≡◌, ℕ, zero, suc, ◌+◌, ◌-◌, ◌*◌, ◌/◌, ◌%◌, ◌^◌, ◌<◌, ◌≤◌, ⊎_elim, sym, ◌∙◌, ap, ap₂, subst, refl, arith, ℤ, pos, ◌+ℤ◌, ◌-ℤ◌, ◌≤ℤ◌, List, length, ◌++◌, length-append, zero-add}
 use Rattle.std.proofs.Math.ListN.{get_or-append}
 use Rattle.std.proofs.lemmas.List.{get_or-append-add}
 use Rattle.std.specs.Int.{bit_at, int_max}
@@ -18,6 +18,7 @@ use Rattle.hpe_base.proofs.Greatest.{max_left, max_right, max_cases, le_trans}
 use Rattle.hpe_lane.specs.Edges.{input_bit}
 use Rattle.hpe_lane.specs.Near.{Near}
 use Rattle.hpe_lane.specs.Folds.{SameBits, Folded}
+use Rattle.hpe_base.proofs.Trellis.{stage-suc}
 
 -- ---- input bits of a place and of its mirror image
 
@@ -117,15 +118,9 @@ le_refl z = omega (arith, ints)
 
 pub Folded-first : (m : ℕ) (start : List ℤ) → Folded m 0 m start start
 Folded-first m start = record {
-  from = λ w h. (w, (h, (refl, λ j k. ap (λ (i : ℕ). input_bit m i 0 w) (zero_plus j))));
-  into = λ v h. (v, (h, (le_refl (number_at start v), λ j k. ap (λ (i : ℕ). input_bit m i 0 v) (zero_plus j))));
+  from = λ w h. (w, (h, (refl, λ j k. ap (λ (i : ℕ). input_bit m i 0 w) (zero-add j))));
+  into = λ v h. (v, (h, (le_refl (number_at start v), λ j k. ap (λ (i : ℕ). input_bit m i 0 v) (zero-add j))));
 }
-  where
-    zero_plus : (j : ℕ) → 0 + j ≡ j
-    zero_plus j = omega arith
-
-shift : (i j : ℕ) → (i + 1) + j ≡ i + suc j
-shift i j = omega arith
 
 mirror_below : (k v q : ℕ) → q ≡ 2 ^ k + 2 ^ k → v < 2 ^ k → q - 1 - v < q
 mirror_below k v q e h = omega arith
@@ -142,13 +137,13 @@ module _ (m i k : ℕ) (start now next : List ℤ) (so_far : Folded m i (suc k) 
       → (v : ℕ) × ((v < 2 ^ m) × ((number_at start v ≡ number_at next w) × SameBits m (i + 1) k v w))
   from_place w u h below e bits =
       let f = so_far.from u below in
-      (f.0, (f.1.0, (f.1.1.0 ∙ sym e, λ j l. ap (λ (n : ℕ). input_bit m n 0 f.0) (shift i j) ∙ f.1.1.1 (suc j) (omega arith) ∙ bits j l)))
+      (f.0, (f.1.0, (f.1.1.0 ∙ sym e, λ j l. ap (λ (n : ℕ). input_bit m n 0 f.0) (sym (stage-suc i j)) ∙ f.1.1.1 (suc j) (omega arith) ∙ bits j l)))
 
   into_place : (v u w : ℕ) → w < 2 ^ k → number_at start v ≤ℤ number_at now u → SameBits m i (suc k) v u → number_at now u ≤ℤ number_at next w
       → ((j : ℕ) → j < k → input_bit (suc k) (suc j) 0 u ≡ input_bit k j 0 w)
       → (w : ℕ) × ((w < 2 ^ k) × ((number_at start v ≤ℤ number_at next w) × SameBits m (i + 1) k v w))
   into_place v u w h le same more bits =
-      (w, (h, (le_trans _ _ _ le more, λ j l. ap (λ (n : ℕ). input_bit m n 0 v) (shift i j) ∙ same (suc j) (omega arith) ∙ bits j l)))
+      (w, (h, (le_trans _ _ _ le more, λ j l. ap (λ (n : ℕ). input_bit m n 0 v) (sym (stage-suc i j)) ∙ same (suc j) (omega arith) ∙ bits j l)))
 
   into_half : (v u : ℕ) → u < 2 ^ suc k → number_at start v ≤ℤ number_at now u → SameBits m i (suc k) v u
       → (w : ℕ) × ((w < 2 ^ k) × ((number_at start v ≤ℤ number_at next w) × SameBits m (i + 1) k v w))

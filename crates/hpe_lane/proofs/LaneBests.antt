@@ -16,10 +16,6 @@ use Rattle.hpe_lane.specs.Edges.{HasParity}
 use Rattle.hpe_lane.specs.Lanes.{IsBest, lane_of}
 use Rattle.hpe_lane.proofs.Parities.{ones_zero}
 
--- no place is chosen yet
-pub IsBest-none : {P : ℕ → Type 0} {f : ℕ → ℤ} → ((v : ℕ) → P v → ⊥) → IsBest P f (negsuc 2147483647)
-IsBest-none none = record { reached = inl refl; bound = λ v p. absurd (none v p) }
-
 pub IsBest-widen : {P Q : ℕ → Type 0} {f : ℕ → ℤ} {t : ℤ} → ((v : ℕ) → P v → Q v) → ((v : ℕ) → Q v → P v) → IsBest P f t → IsBest Q f t
 IsBest-widen there back g = record {
   reached = ⊎_elim (λ e. inl e) (λ r. inr (r.0, (there r.0 r.1.0, r.1.1))) g.reached;
@@ -89,9 +85,6 @@ parity_split v mask = sum_parity (count_ones (bit_and v mask)) (count_ones (bit_
 -- a place of lane i in the first j blocks, where the block's parity is p
 abbrev pub InLane : ℕ → ℕ → ℕ → ℕ → ℕ → Type 0
 InLane mask p i j v = (v < j * 8) × ((v % 8 ≡ i) × (parity mask (v / 8 * 8) ≡ p))
-
-pub lane-none : (mask p i : ℕ) (f : ℕ → ℤ) (t : ℤ) → t ≡ negsuc 2147483647 → IsBest (InLane mask p i 0) f t
-lane-none mask p i f t e = subst (λ (z : ℤ). IsBest (InLane mask p i 0) f z) (sym e) (IsBest-none (λ v q. omega (arith, q.0)))
 
 block_of : (i j : ℕ) → i < 8 → (j * 8 + i) / 8 * 8 ≡ j * 8
 block_of i j h = omega arith

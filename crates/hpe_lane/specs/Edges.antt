@@ -1,6 +1,6 @@
 -- The edges of one stage of the inner code: an edge leaves a state, which is the last bit of the accumulator, and its
 -- input is a symbol v of m bits, most significant first.
-use Rattle.std.specs.Prelude.{if◌then◌else◌, ◌==◌, ◌≡◌, ℕ, zero, suc, ◌-◌, ◌%◌, ◌<◌, ℤ, pos, ◌+ℤ◌, List, [], ◌∷◌, length, bit_and, count_ones}
+use Rattle.std.specs.Prelude.{if◌then◌else◌, ◌==◌, ◌≡◌, ℕ, zero, suc, ◌-◌, ◌%◌, ◌<◌, ℤ, pos, ◌+ℤ◌, List, [], ◌∷◌, length, slice_index, bit_and, count_ones}
 use Rattle.std.specs.Int.{bit_at}
 use Rattle.hpe_base.specs.Bits.{xor}
 use Rattle.hpe_base.specs.Sizes.{number_at}
@@ -28,3 +28,8 @@ bit_of m v i = bit_at v (m - 1 - i)
 abbrev pub input_bit : ℕ → ℕ → ℕ → ℕ → ℕ
 input_bit m zero s v = xor (bit_of m v 0) s
 input_bit m (suc i) s v = xor (bit_of m v (suc i)) (bit_of m v i)
+
+-- what the symbols score from state s: each its count, and the numbers of its input bits that are 1
+abbrev pub AreEdgeScores : ℕ → List ℕ → List ℤ → List ℤ → Type 0
+AreEdgeScores s counts l from =
+    (v : ℕ) → v < length counts → number_at from v ≡ pos (slice_index counts v) +ℤ gray_from s l v

@@ -6,3 +6,5 @@ pub mod Lanes
 pub mod Folds
 pub mod Eights
 pub mod Windows
+pub mod Stages
+pub mod Bounds

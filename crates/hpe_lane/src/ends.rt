@@ -35,7 +35,9 @@ pub(crate) fn best_ends(scores: &[i32]) -> [i32; 2]
 #[inline(always)]
 fn best_of_lanes(scores: &[i32]) -> [i32; 8]
     requires some { 8 ≤ length scores.now }
-    ensures { (i : ℕ) → i < 8 → IsGreatest (λ (v : ℕ). (v < 8 * (length scores.now / 8)) × (v % 8 ≡ i)) (number_at scores.now) (number_at result i) }
+    ensures { (i : ℕ) → i < 8
+        → IsGreatest (λ (v : ℕ). (v < 8 * (length scores.now / 8)) × (v % 8 ≡ i)) (number_at scores.now)
+        (number_at result i) }
 {
     let mut best = first_eight(scores);
     for k in 1..scores.len() / 8 {

@@ -1,15 +1,16 @@
 //! The soft values of a stage's input bits, from one score for each symbol.
 //!
-//! A list of 2^m scores is folded m times to half its length. Each fold tells the two halves apart, which gives one soft
-//! value, and keeps at each place the greater of it and its mirror image, since the input bits that are left are the
+//! A list of 2^m scores is folded m times to half its length. Each fold tells the two halves apart, which gives one
+//! soft value, and keeps at each place the greater of it and its mirror image, since the input bits that are left are the
 //! same there. The last eight scores are one vector, which gives the last three soft values at once.
 ghost use Rattle.std.specs.Prelude.{◌≡◌, ℕ, ◌-◌, ◌/◌, ◌%◌, ◌<◌, ◌≤◌, ◌^◌, length};
 ghost use Rattle.std.specs.Int.{int_max};
 ghost use Rattle.hpe_base.specs.Sizes.{number_at};
 ghost use Rattle.hpe_base.specs.Greatest.{IsGreatest, IsSoft};
-ghost use Rattle.hpe_lane.specs.Edges.{input_bit};
 ghost use Rattle.hpe_lane.specs.Folds.{Folded};
 ghost use Rattle.hpe_lane.specs.Near.{Near};
+ghost use Rattle.hpe_lane.specs.Stages.{AreListSoft};
+ghost use Rattle.hpe_lane.specs.Bounds.{apart_most};
 
 use crate::ends::best_ends;
 use crate::lanes::{first_eight, raise_eight, softs_of_eight};
@@ -23,8 +24,8 @@ use std::marker::PhantomData;
 #[inline(always)]
 pub fn fold_soft(scores: &mut [i32], out: &mut [i32])
     requires scores { length scores.old ≡ 2 ^ length out.old }
-    requires near { Near 1200294894 (length scores.old) scores.old }
-    ensures { (i : ℕ) → i < length out.old → IsSoft (λ (v : ℕ). v < 2 ^ length out.old) (input_bit (length out.old) i 0) (number_at scores.old) (number_at out.new i) }
+    requires near { Near apart_most (length scores.old) scores.old }
+    ensures { AreListSoft (length out.old) (2 ^ length out.old) (length out.old) scores.old out.new }
 {
     let m = out.len();
     if m < 3 {
@@ -44,8 +45,8 @@ trait Turns {
     fn fold(scores: &mut [i32], out: &mut [i32])
         requires some { 3 ≤ length out.old }
         requires scores { length scores.old ≡ 2 ^ length out.old }
-        requires near { Near 1200294894 (length scores.old) scores.old }
-        ensures { (i : ℕ) → i < length out.old → IsSoft (λ (v : ℕ). v < 2 ^ length out.old) (input_bit (length out.old) i 0) (number_at scores.old) (number_at out.new i) };
+        requires near { Near apart_most (length scores.old) scores.old }
+        ensures { AreListSoft (length out.old) (2 ^ length out.old) (length out.old) scores.old out.new };
 }
 
 /// No turn written out.
@@ -86,9 +87,9 @@ impl<T: Turns> Turns for Then<T> {
 fn fold_turns(m: usize, scores: &mut [i32], out: &mut [i32])
     requires few { length out.old ≤ m }
     requires scores { length scores.old ≡ 2 ^ m }
-    requires near { Near 1200294894 (length scores.old) scores.old }
+    requires near { Near apart_most (length scores.old) scores.old }
     ensures folded { Folded m (length out.old) (m - length out.old) scores.old scores.new }
-    ensures soft { (i : ℕ) → i < length out.old → IsSoft (λ (v : ℕ). v < 2 ^ m) (input_bit m i 0) (number_at scores.old) (number_at out.new i) }
+    ensures soft { AreListSoft m (2 ^ m) (length out.old) scores.old out.new }
 {
     let mut size = scores.len();
     for (i, place) in out.iter_mut().enumerate() {
@@ -102,8 +103,8 @@ fn fold_turns(m: usize, scores: &mut [i32], out: &mut [i32])
 fn fold_eight(scores: &[i32], out: &mut [i32])
     requires eight { 8 ≤ length scores.now }
     requires three { length out.old ≡ 3 }
-    requires near { Near 1200294894 8 scores.now }
-    ensures { (i : ℕ) → i < 3 → IsSoft (λ (v : ℕ). v < 8) (input_bit 3 i 0) (number_at scores.now) (number_at out.new i) }
+    requires near { Near apart_most 8 scores.now }
+    ensures { AreListSoft 3 8 3 scores.now out.new }
 {
     let ends = softs_of_eight(first_eight(scores));
     out[0] = ends[0];
@@ -117,9 +118,11 @@ fn fold_eight(scores: &[i32], out: &mut [i32])
 fn fold(scores: &mut [i32]) -> i32
     requires some { 2 ≤ length scores.old }
     requires even { length scores.old % 2 ≡ 0 }
-    requires near { Near 1200294894 (length scores.old) scores.old }
-    ensures soft { IsSoft (λ (v : ℕ). v < length scores.old) (λ v. v / (length scores.old / 2)) (number_at scores.old) result }
-    ensures folded { (v : ℕ) → v < length scores.old / 2 → number_at scores.new v ≡ int_max (number_at scores.old v) (number_at scores.old (length scores.old - 1 - v)) }
+    requires near { Near apart_most (length scores.old) scores.old }
+    ensures soft { IsSoft (λ (v : ℕ). v < length scores.old) (λ v. v / (length scores.old / 2))
+        (number_at scores.old) result }
+    ensures folded { (v : ℕ) → v < length scores.old / 2
+        → number_at scores.new v ≡ int_max (number_at scores.old v) (number_at scores.old (length scores.old - 1 - v)) }
 {
     let half = scores.len() / 2;
     let (low, high) = scores.split_at_mut(half);
@@ -132,7 +135,8 @@ fn fold(scores: &mut [i32]) -> i32
 #[inline(always)]
 fn raise(low: &mut [i32], high: &[i32])
     requires same { length high.now ≡ length low.old }
-    ensures { (v : ℕ) → v < length low.old → number_at low.new v ≡ int_max (number_at low.old v) (number_at high.now (length high.now - 1 - v)) }
+    ensures { (v : ℕ) → v < length low.old
+        → number_at low.new v ≡ int_max (number_at low.old v) (number_at high.now (length high.now - 1 - v)) }
 {
     let n = high.len();
     for k in 0..n / 8 {

@@ -5,7 +5,9 @@
 //! list, and the same read backwards with one more number.
 ghost use Rattle.std.specs.Prelude.{◌≡◌, ℕ, ◌+◌, ◌-◌, ◌*◌, ◌<◌, ◌≤◌, ◌^◌, pos, ◌+ℤ◌, ◌≤ℤ◌, length, slice_index};
 ghost use Rattle.hpe_base.specs.Sizes.{number_at, AllWithin};
-ghost use Rattle.hpe_lane.specs.Edges.{gray_from};
+ghost use Rattle.hpe_lane.specs.Edges.{gray_from, AreEdgeScores};
+ghost use Rattle.hpe_base.specs.Parameters.{clamp};
+ghost use Rattle.hpe_lane.specs.Stages.{IsStage};
 
 use crate::lanes::{add_eight, add_turned_eight, gray_eight, mirror_eight};
 use crate::plain;
@@ -15,7 +17,7 @@ use crate::plain;
 pub fn gray_scores(l: &[i32], out: &mut [i32])
     requires few { (2 ≤ length l.now) × (length l.now ≤ 8) }
     requires size { length out.old ≡ 2 ^ length l.now }
-    requires l { AllWithin 16383 l.now }
+    requires l { AllWithin clamp l.now }
     ensures { (v : ℕ) → v < 2 ^ length l.now → number_at out.new v ≡ gray_from 0 l.now v }
 {
     let m = l.len();
@@ -38,8 +40,8 @@ pub fn gray_scores(l: &[i32], out: &mut [i32])
 #[inline(always)]
 fn mirror(low: &[i32], high: &mut [i32], x: i32)
     requires same { length low.now ≡ length high.old }
-    requires low { AllWithin (7 * 16383) low.now }
-    requires x { (x ≤ℤ pos 16383) × (pos 0 ≤ℤ (x +ℤ pos 16383)) }
+    requires low { AllWithin (7 * clamp) low.now }
+    requires x { (x ≤ℤ pos clamp) × (pos 0 ≤ℤ (x +ℤ pos clamp)) }
     ensures { (j : ℕ) → j < length low.now → number_at high.new j ≡ x +ℤ number_at low.now (length low.now - 1 - j) }
 {
     let n = low.len();
@@ -54,14 +56,11 @@ fn mirror(low: &[i32], high: &mut [i32], x: i32)
 /// From each state, what each symbol scores: its count, and each `l[i]` whose input bit is 1.
 #[inline(always)]
 pub fn edge_scores(counts: &[u16], l: &[i32], from0: &mut [i32], from1: &mut [i32])
-    requires few { (2 ≤ length l.now) × (length l.now ≤ 8) }
-    requires counts { length counts.now ≡ 2 ^ length l.now }
+    requires stage { IsStage counts.now l.now }
     requires from0 { length from0.old ≡ 2 ^ length l.now }
     requires from1 { length from1.old ≡ 2 ^ length l.now }
-    requires most { (i : ℕ) → slice_index counts.now i ≤ 16383 }
-    requires l { AllWithin 16383 l.now }
-    ensures from0 { (v : ℕ) → v < length counts.now → number_at from0.new v ≡ pos (slice_index counts.now v) +ℤ gray_from 0 l.now v }
-    ensures from1 { (v : ℕ) → v < length counts.now → number_at from1.new v ≡ pos (slice_index counts.now v) +ℤ gray_from 1 l.now v }
+    ensures from0 { AreEdgeScores 0 counts.now l.now from0.new }
+    ensures from1 { AreEdgeScores 1 counts.now l.now from1.new }
 {
     gray_scores(l, from0);
     add_mirrored(counts, from0, from1);
@@ -73,9 +72,10 @@ pub fn edge_scores(counts: &[u16], l: &[i32], from0: &mut [i32], from1: &mut [i3
 fn add_mirrored(counts: &[u16], scores: &[i32], sums: &mut [i32])
     requires same { length counts.now ≡ length scores.now }
     requires same_sums { length sums.old ≡ length scores.now }
-    requires most { (i : ℕ) → slice_index counts.now i ≤ 16383 }
-    requires scores { AllWithin (8 * 16383) scores.now }
-    ensures { (v : ℕ) → v < length scores.now → number_at sums.new v ≡ pos (slice_index counts.now v) +ℤ number_at scores.now (length scores.now - 1 - v) }
+    requires most { (i : ℕ) → slice_index counts.now i ≤ clamp }
+    requires scores { AllWithin (8 * clamp) scores.now }
+    ensures { (v : ℕ) → v < length scores.now
+        → number_at sums.new v ≡ pos (slice_index counts.now v) +ℤ number_at scores.now (length scores.now - 1 - v) }
 {
     let n = scores.len();
     for k in 0..n / 8 {
@@ -95,9 +95,10 @@ fn add_mirrored(counts: &[u16], scores: &[i32], sums: &mut [i32])
 #[inline(always)]
 fn add_counts(counts: &[u16], scores: &mut [i32])
     requires same { length counts.now ≡ length scores.old }
-    requires most { (i : ℕ) → slice_index counts.now i ≤ 16383 }
-    requires scores { AllWithin (8 * 16383) scores.old }
-    ensures { (v : ℕ) → v < length counts.now → number_at scores.new v ≡ pos (slice_index counts.now v) +ℤ number_at scores.old v }
+    requires most { (i : ℕ) → slice_index counts.now i ≤ clamp }
+    requires scores { AllWithin (8 * clamp) scores.old }
+    ensures { (v : ℕ) → v < length counts.now
+        → number_at scores.new v ≡ pos (slice_index counts.now v) +ℤ number_at scores.old v }
 {
     let n = scores.len();
     for k in 0..n / 8 {

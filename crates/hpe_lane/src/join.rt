@@ -2,9 +2,10 @@
 //!
 //! Where all bits of a symbol are turned, so is its first input bit, and no other. So the edges of state 1, read
 //! backwards, have the input bits of those of state 0, and one list of the greater scores serves both.
-ghost use Rattle.std.specs.Prelude.{◌≡◌, ℕ, ◌-◌, ◌%◌, ◌<◌, ◌+ℤ◌, length};
-ghost use Rattle.std.specs.Int.{int_max};
-ghost use Rattle.hpe_base.specs.Sizes.{number_at, Within, AllWithin};
+ghost use Rattle.std.specs.Prelude.{◌≡◌, ℕ, ◌%◌, length};
+ghost use Rattle.hpe_base.specs.Sizes.{AllWithin};
+ghost use Rattle.hpe_lane.specs.Bounds.{edge_most, IsRow, around_most};
+ghost use Rattle.hpe_lane.specs.Stages.{AreJoined};
 
 use crate::lanes::join_eight;
 use crate::plain;
@@ -16,11 +17,11 @@ pub fn join(from0: &[i32], around0: [i32; 2], from1: &[i32], around1: [i32; 2], 
     requires fours { length joint.old % 4 ≡ 0 }
     requires from0 { length from0.now ≡ length joint.old }
     requires from1 { length from1.now ≡ length joint.old }
-    requires around0 { (s : ℕ) → s < 2 → Within 1700000000 (number_at around0 s) }
-    requires around1 { (s : ℕ) → s < 2 → Within 1700000000 (number_at around1 s) }
-    requires edges0 { AllWithin 147447 from0.now }
-    requires edges1 { AllWithin 147447 from1.now }
-    ensures { (v : ℕ) → v < length joint.old → number_at joint.new v ≡ int_max (number_at around0 (v % 2) +ℤ number_at from0.now v) (number_at around1 (v % 2) +ℤ number_at from1.now (length joint.old - 1 - v)) }
+    requires around0 { IsRow 2 around_most around0 }
+    requires around1 { IsRow 2 around_most around1 }
+    requires edges0 { AllWithin edge_most from0.now }
+    requires edges1 { AllWithin edge_most from1.now }
+    ensures { AreJoined (length joint.old) from0.now around0 from1.now around1 joint.new }
 {
     let n = joint.len();
     for k in 0..n / 8 {

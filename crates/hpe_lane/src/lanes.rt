@@ -3,13 +3,17 @@
 //! Vectors live in the functions of this file alone, between slices or arrays of eight. Their clauses speak place by place
 //! of whole numbers, so the kernels above know nothing of lanes. Where a function reads all places into a list that it
 //! does not use, the reader of its proof gets from it that each number fits its lane.
-ghost use Rattle.std.specs.Prelude.{◌≡◌, ℕ, ◌+◌, ◌-◌, ◌*◌, ◌%◌, ◌<◌, ◌≤◌, pos, ◌+ℤ◌, ◌-ℤ◌, ◌≤ℤ◌, length, slice_index};
+ghost use Rattle.std.specs.Prelude.{◌≡◌, ℕ, ◌+◌, ◌-◌, ◌*◌, ◌<◌, ◌≤◌, pos, ◌+ℤ◌, ◌-ℤ◌, length, slice_index};
 ghost use Rattle.std.specs.Int.{int_max};
 ghost use Rattle.hpe_base.specs.Sizes.{number_at, Within, AllWithin};
 ghost use Rattle.hpe_lane.specs.Edges.{gray_from};
-ghost use Rattle.hpe_lane.specs.Eights.{soft_of_eight};
+ghost use Rattle.hpe_lane.specs.Eights.{soft_of_eight, top_of};
 ghost use Rattle.hpe_lane.specs.Near.{Near};
 ghost use Rattle.hpe_lane.specs.OuterSums.{best_sum, turned_by};
+ghost use Rattle.hpe_base.specs.Parameters.{clamp};
+ghost use Rattle.hpe_lane.specs.Bounds.{edge_most, row_most, IsRow, after_most, apart_most, around_most, outputs_most};
+ghost use Rattle.hpe_lane.specs.OuterStage.{AreGreaterSums};
+ghost use Rattle.hpe_lane.specs.Stages.{AreJoined};
 
 use std::simd::prelude::*;
 
@@ -17,8 +21,8 @@ use std::simd::prelude::*;
 pub(crate) fn mirror_eight(low: &[i32], high: &mut [i32], x: i32)
     requires eight { length low.now ≡ 8 }
     requires same { length high.old ≡ 8 }
-    requires low { AllWithin (7 * 16383) low.now }
-    requires x { Within 16383 x }
+    requires low { AllWithin (7 * clamp) low.now }
+    requires x { Within clamp x }
     ensures { (j : ℕ) → j < 8 → number_at high.new j ≡ x +ℤ number_at low.now (7 - j) }
 {
     let sum = i32x8::from_slice(low).reverse() + i32x8::splat(x);
@@ -29,8 +33,8 @@ pub(crate) fn mirror_eight(low: &[i32], high: &mut [i32], x: i32)
 pub(crate) fn add_eight(counts: &[u16], scores: &mut [i32])
     requires eight { length counts.now ≡ 8 }
     requires same { length scores.old ≡ 8 }
-    requires most { (i : ℕ) → slice_index counts.now i ≤ 16383 }
-    requires scores { AllWithin (8 * 16383) scores.old }
+    requires most { (i : ℕ) → slice_index counts.now i ≤ clamp }
+    requires scores { AllWithin (8 * clamp) scores.old }
     ensures { (v : ℕ) → v < 8 → number_at scores.new v ≡ pos (slice_index counts.now v) +ℤ number_at scores.old v }
 {
     let counts = u16x8::from_slice(counts).cast::<i32>();
@@ -60,8 +64,8 @@ pub(crate) fn add_turned_eight(counts: &[u16], scores: &[i32], sums: &mut [i32])
     requires eight { length counts.now ≡ 8 }
     requires same { length scores.now ≡ 8 }
     requires same_sums { length sums.old ≡ 8 }
-    requires most { (i : ℕ) → slice_index counts.now i ≤ 16383 }
-    requires scores { AllWithin (8 * 16383) scores.now }
+    requires most { (i : ℕ) → slice_index counts.now i ≤ clamp }
+    requires scores { AllWithin (8 * clamp) scores.now }
     ensures { (v : ℕ) → v < 8 → number_at sums.new v ≡ pos (slice_index counts.now v) +ℤ number_at scores.now (7 - v) }
 {
     let counts = u16x8::from_slice(counts).cast::<i32>();
@@ -71,9 +75,9 @@ pub(crate) fn add_turned_eight(counts: &[u16], scores: &[i32], sums: &mut [i32])
 
 /// For each state, the greater of the two sums that lead to it: of what a state scores and an edge.
 pub(crate) fn forward_eight(row: [i32; 4], edges: [i32; 8]) -> [i32; 4]
-    requires row { (q : ℕ) → q < 4 → Within 600000000 (number_at row q) }
-    requires edges { (q : ℕ) → q < 8 → Within 49149 (number_at edges q) }
-    ensures { (q : ℕ) → q < 4 → number_at result q ≡ int_max (number_at row (2 * (q % 2)) +ℤ number_at edges q) (number_at row (2 * (q % 2) + 1) +ℤ number_at edges (4 + q)) }
+    requires row { IsRow 4 row_most row }
+    requires edges { IsRow 8 outputs_most edges }
+    ensures { AreGreaterSums (λ q. number_at edges q) (λ q. number_at edges (4 + q)) row result }
 {
     let before = i32x4::from_array(row).swizzle([0, 2, 0, 2, 1, 3, 1, 3]);
     let sums = before + i32x8::from_array(edges);
@@ -99,7 +103,7 @@ pub(crate) fn greater_eight(best: &mut [i32], block: &[i32])
 
 /// The greatest of the even lanes and of the odd ones.
 pub(crate) fn ends_of_eight(best: [i32; 8]) -> [i32; 2]
-    ensures { (j : ℕ) → j < 2 → number_at result j ≡ int_max (int_max (number_at best j) (number_at best (4 + j))) (int_max (number_at best (2 + j)) (number_at best (6 + j))) }
+    ensures { (j : ℕ) → j < 2 → number_at result j ≡ top_of (number_at best) j (4 + j) (2 + j) (6 + j) }
 {
     let _best = [
         best[0], best[1], best[2], best[3], best[4], best[5], best[6], best[7],
@@ -122,11 +126,11 @@ pub(crate) fn join_eight(
     requires eight { length joint.old ≡ 8 }
     requires from0 { length from0.now ≡ 8 }
     requires from1 { length from1.now ≡ 8 }
-    requires around0 { (s : ℕ) → s < 2 → Within 1700000000 (number_at around0 s) }
-    requires around1 { (s : ℕ) → s < 2 → Within 1700000000 (number_at around1 s) }
-    requires edges0 { AllWithin 147447 from0.now }
-    requires edges1 { AllWithin 147447 from1.now }
-    ensures { (i : ℕ) → i < 8 → number_at joint.new i ≡ int_max (number_at around0 (i % 2) +ℤ number_at from0.now i) (number_at around1 (i % 2) +ℤ number_at from1.now (7 - i)) }
+    requires around0 { IsRow 2 around_most around0 }
+    requires around1 { IsRow 2 around_most around1 }
+    requires edges0 { AllWithin edge_most from0.now }
+    requires edges1 { AllWithin edge_most from1.now }
+    ensures { AreJoined 8 from0.now around0 from1.now around1 joint.new }
 {
     let first = i32x2::from_array(around0).swizzle([0, 1, 0, 1, 0, 1, 0, 1]);
     let second = i32x2::from_array(around1).swizzle([0, 1, 0, 1, 0, 1, 0, 1]);
@@ -137,10 +141,12 @@ pub(crate) fn join_eight(
 
 /// The greatest sum with `one` less the greatest with `zero`, and the same with both exchanged at two of the places.
 pub(crate) fn differences_four(fore: [i32; 4], zero: [i32; 4], one: [i32; 4]) -> [i32; 4]
-    requires fore { (q : ℕ) → q < 4 → Within 600000000 (number_at fore q) }
-    requires zero { (q : ℕ) → q < 4 → Within 600049149 (number_at zero q) }
-    requires one { (q : ℕ) → q < 4 → Within 600049149 (number_at one q) }
-    ensures { (k : ℕ) → k < 4 → number_at result k ≡ best_sum (number_at fore) (number_at (turned_by k one zero)) -ℤ best_sum (number_at fore) (number_at (turned_by k zero one)) }
+    requires fore { IsRow 4 row_most fore }
+    requires zero { IsRow 4 after_most zero }
+    requires one { IsRow 4 after_most one }
+    ensures { (k : ℕ) → k < 4 → number_at result k
+        ≡ best_sum (number_at fore) (number_at (turned_by k one zero))
+        -ℤ best_sum (number_at fore) (number_at (turned_by k zero one)) }
 {
     let fore = i32x4::from_array(fore);
     let zero = fore + i32x4::from_array(zero);
@@ -174,7 +180,7 @@ pub(crate) fn differences_four(fore: [i32; 4], zero: [i32; 4], one: [i32; 4]) ->
 pub(crate) fn gray_eight(l: &[i32], out: &mut [i32])
     requires three { length l.now ≡ 3 }
     requires eight { length out.old ≡ 8 }
-    requires l { AllWithin 16383 l.now }
+    requires l { AllWithin clamp l.now }
     ensures { (v : ℕ) → v < 8 → number_at out.new v ≡ gray_from 0 l.now v }
 {
     let none = i32x8::splat(0);
@@ -187,7 +193,7 @@ pub(crate) fn gray_eight(l: &[i32], out: &mut [i32])
 
 /// What the three input bits of eight places tell apart; the fourth number is the third.
 pub(crate) fn softs_of_eight(scores: [i32; 8]) -> [i32; 4]
-    requires near { Near 1200294894 8 scores }
+    requires near { Near apart_most 8 scores }
     ensures { (k : ℕ) → k < 4 → number_at result k ≡ soft_of_eight (number_at scores) k }
 {
     let _scores = [

@@ -5,11 +5,11 @@
 //! The sums of states and edges are one vector of eight, whose halves are compared.
 ghost use Rattle.std.specs.Prelude.{◌≡◌, ℕ, ◌+◌, ◌*◌, ◌/◌, ◌%◌, ◌<◌, ◌^◌, ◌+ℤ◌};
 ghost use Rattle.std.specs.Int.{int_max};
-ghost use Rattle.hpe_base.specs.Sizes.{number_at, Within, AllWithin};
-ghost use Rattle.hpe_base.specs.Greatest.{IsGreatest, IsSoft};
-ghost use Rattle.hpe_base.specs.Trellis.{IsEdge};
-ghost use Rattle.hpe_lane.specs.OuterStage.{outer_next, edge_sum, soft_bit};
+ghost use Rattle.hpe_base.specs.Sizes.{number_at, AllWithin};
+ghost use Rattle.hpe_lane.specs.OuterStage.{outer_next, edge_sum, AreGreaterSums, AreOuterSoft, IsOuterBack, IsOuterForward, outer_after};
 ghost use Rattle.hpe_lane.specs.OuterSums.{chosen_after};
+ghost use Rattle.hpe_base.specs.Parameters.{clamp};
+ghost use Rattle.hpe_lane.specs.Bounds.{row_most, IsRow, after_most, outputs_most};
 
 use crate::lanes::{differences_four, forward_eight};
 use hpe_base::Steps;
@@ -19,10 +19,10 @@ use std::sync::ledger::Ledger;
 /// states 1 and 3.
 #[inline(always)]
 fn edges_to(l: [i32; 3]) -> [i32; 8]
-    requires l { AllWithin 16383 l }
+    requires l { AllWithin clamp l }
     ensures even { (q : ℕ) → q < 4 → number_at result q ≡ edge_sum l (2 * (q % 2)) (q / 2) }
     ensures odd { (q : ℕ) → q < 4 → number_at result (4 + q) ≡ edge_sum l (2 * (q % 2) + 1) (q / 2) }
-    ensures small { (q : ℕ) → q < 8 → Within 49149 (number_at result q) }
+    ensures small { IsRow 8 outputs_most result }
 {
     let second = l[1] + l[2];
     let all = l[0] + second;
@@ -32,9 +32,10 @@ fn edges_to(l: [i32; 3]) -> [i32; 8]
 /// For each state, the greater score of the two edges that lead to it.
 #[inline(always)]
 fn forward_row(row: [i32; 4], l: [i32; 3]) -> [i32; 4]
-    requires row { (q : ℕ) → q < 4 → Within 600000000 (number_at row q) }
-    requires l { AllWithin 16383 l }
-    ensures { (q : ℕ) → q < 4 → number_at result q ≡ int_max (number_at row (2 * (q % 2)) +ℤ edge_sum l (2 * (q % 2)) (q / 2)) (number_at row (2 * (q % 2) + 1) +ℤ edge_sum l (2 * (q % 2) + 1) (q / 2)) }
+    requires row { IsRow 4 row_most row }
+    requires l { AllWithin clamp l }
+    ensures { AreGreaterSums (λ q. edge_sum l (2 * (q % 2)) (q / 2))
+        (λ q. edge_sum l (2 * (q % 2) + 1) (q / 2)) row result }
 {
     let edges = edges_to(l);
     forward_eight(row, edges)
@@ -47,10 +48,10 @@ fn forward_row(row: [i32; 4], l: [i32; 3]) -> [i32; 4]
 /// three outputs, 0 for one that isn't kept.
 #[inline(always)]
 pub fn outer_forward<L: Ledger>(row: [i32; 4], l: [i32; 3], steps: &mut Steps<L>) -> [i32; 4]
-    requires row { (q : ℕ) → q < 4 → Within 600000000 (number_at row q) }
-    requires l { AllWithin 16383 l }
+    requires row { IsRow 4 row_most row }
+    requires l { AllWithin clamp l }
     requires room { steps.old < 2 ^ 60 }
-    ensures row { (q : ℕ) → q < 4 → IsGreatest (λ (e : ℕ × ℕ). IsEdge 2 4 e × (outer_next e.0 e.1 ≡ q)) (λ e. number_at row e.0 +ℤ edge_sum l e.0 e.1) (number_at result q) }
+    ensures row { IsOuterForward l row result }
     ensures step { steps.new ≡ steps.old + 1 }
 {
     let next = forward_row(row, l);
@@ -61,8 +62,8 @@ pub fn outer_forward<L: Ledger>(row: [i32; 4], l: [i32; 3], steps: &mut Steps<L>
 /// What each state scores from the stage on with input 0, and what with input 1.
 #[inline(always)]
 pub(crate) fn afters(l: [i32; 3], back: [i32; 4]) -> ([i32; 4], [i32; 4])
-    requires back { (q : ℕ) → q < 4 → Within 600000000 (number_at back q) }
-    requires l { AllWithin 16383 l }
+    requires back { IsRow 4 row_most back }
+    requires l { AllWithin clamp l }
     ensures zero { (p : ℕ) → p < 4 → number_at result.0 p ≡ edge_sum l p 0 +ℤ number_at back (outer_next p 0) }
     ensures one { (p : ℕ) → p < 4 → number_at result.1 p ≡ edge_sum l p 1 +ℤ number_at back (outer_next p 1) }
 {
@@ -77,8 +78,8 @@ pub(crate) fn afters(l: [i32; 3], back: [i32; 4]) -> ([i32; 4], [i32; 4])
 /// The greater of two numbers, place by place.
 #[inline(always)]
 pub(crate) fn greater_of(zero: [i32; 4], one: [i32; 4]) -> [i32; 4]
-    requires zero { (q : ℕ) → q < 4 → Within 600049149 (number_at zero q) }
-    requires one { (q : ℕ) → q < 4 → Within 600049149 (number_at one q) }
+    requires zero { IsRow 4 after_most zero }
+    requires one { IsRow 4 after_most one }
     ensures { (p : ℕ) → p < 4 → number_at result p ≡ int_max (number_at zero p) (number_at one p) }
 {
     [
@@ -93,10 +94,10 @@ pub(crate) fn greater_of(zero: [i32; 4], one: [i32; 4]) -> [i32; 4]
 /// and `one` with input 1.
 #[inline(always)]
 fn soft_values(fore: [i32; 4], zero: [i32; 4], one: [i32; 4]) -> [i32; 4]
-    requires fore { (q : ℕ) → q < 4 → Within 600000000 (number_at fore q) }
-    requires zero { (q : ℕ) → q < 4 → Within 600049149 (number_at zero q) }
-    requires one { (q : ℕ) → q < 4 → Within 600049149 (number_at one q) }
-    ensures { (k : ℕ) → k < 4 → IsSoft (IsEdge 2 4) (λ (e : ℕ × ℕ). soft_bit k e.0 e.1) (λ e. number_at fore e.0 +ℤ chosen_after zero one e.0 e.1) (number_at result k) }
+    requires fore { IsRow 4 row_most fore }
+    requires zero { IsRow 4 after_most zero }
+    requires one { IsRow 4 after_most one }
+    ensures { AreOuterSoft fore (chosen_after zero one) result }
 {
     // the first output isn't the input where b is 1, the second and third where one of a and b is
     differences_four(fore, zero, one)
@@ -113,12 +114,12 @@ pub fn outer_back<L: Ledger>(
     back: [i32; 4],
     steps: &mut Steps<L>,
 ) -> ([i32; 4], [i32; 4])
-    requires fore { (q : ℕ) → q < 4 → Within 600000000 (number_at fore q) }
-    requires l { AllWithin 16383 l }
-    requires back { (q : ℕ) → q < 4 → Within 600000000 (number_at back q) }
+    requires fore { IsRow 4 row_most fore }
+    requires l { AllWithin clamp l }
+    requires back { IsRow 4 row_most back }
     requires room { steps.old < 2 ^ 60 }
-    ensures row { (p : ℕ) → p < 4 → IsGreatest (λ (x : ℕ). x < 2) (λ x. edge_sum l p x +ℤ number_at back (outer_next p x)) (number_at result.0 p) }
-    ensures soft { (k : ℕ) → k < 4 → IsSoft (IsEdge 2 4) (λ (e : ℕ × ℕ). soft_bit k e.0 e.1) (λ e. number_at fore e.0 +ℤ (edge_sum l e.0 e.1 +ℤ number_at back (outer_next e.0 e.1))) (number_at result.1 k) }
+    ensures row { IsOuterBack l back result.0 }
+    ensures soft { AreOuterSoft fore (outer_after l back) result.1 }
     ensures step { steps.new ≡ steps.old + 1 }
 {
     steps.tick();

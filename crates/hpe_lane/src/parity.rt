@@ -2,7 +2,7 @@
 //!
 //! The parity of a place is that of its block of eight and that of its lane together. So whole blocks are compared, and
 //! the lanes are told apart at the end.
-ghost use Rattle.std.specs.Prelude.{◌≡◌, ℕ, ◌*◌, ◌/◌, ◌%◌, ◌<◌, ◌≤◌, length, bit_and, count_ones};
+ghost use Rattle.std.specs.Prelude.{◌≡◌, ℕ, ◌*◌, ◌/◌, ◌<◌, ◌≤◌, length};
 ghost use Rattle.hpe_base.specs.Sizes.{number_at};
 ghost use Rattle.hpe_base.specs.Greatest.{IsGreatest};
 ghost use Rattle.hpe_lane.specs.Edges.{HasParity};
@@ -38,8 +38,8 @@ pub fn best_by_parity(scores: &[i32], mask: u32) -> [i32; 2]
 
 /// The same for the whole blocks of the list.
 fn best_of_blocks(scores: &[i32], mask: usize) -> [i32; 2]
-    ensures even { IsBest (λ (v : ℕ). (v < length scores.now / 8 * 8) × (count_ones (bit_and v mask) % 2 ≡ 0)) (number_at scores.now) (number_at result 0) }
-    ensures odd { IsBest (λ (v : ℕ). (v < length scores.now / 8 * 8) × (count_ones (bit_and v mask) % 2 ≡ 1)) (number_at scores.now) (number_at result 1) }
+    ensures even { IsBest (HasParity (length scores.now / 8 * 8) mask 0) (number_at scores.now) (number_at result 0) }
+    ensures odd { IsBest (HasParity (length scores.now / 8 * 8) mask 1) (number_at scores.now) (number_at result 1) }
 {
     if scores.len() < LANES {
         return [i32::MIN; 2];

@@ -7,11 +7,13 @@ ghost use Rattle.std.specs.Prelude.{◌≡◌, ℕ, ◌+◌, ◌-◌, ◌*◌, �
 ghost use Rattle.std.specs.Int.{int_max};
 ghost use Rattle.hpe_base.specs.Sizes.{number_at, Within, AllWithin};
 ghost use Rattle.hpe_base.specs.Greatest.{IsGreatest, IsSoft};
-ghost use Rattle.hpe_base.specs.Trellis.{IsEdge};
-ghost use Rattle.hpe_lane.specs.Edges.{gray_from, edge_of, input_bit, HasParity};
+ghost use Rattle.hpe_lane.specs.Edges.{gray_from, edge_of, HasParity, AreEdgeScores};
 ghost use Rattle.hpe_lane.specs.Near.{Near};
-ghost use Rattle.hpe_lane.specs.OuterStage.{outer_next, edge_sum, soft_bit};
+ghost use Rattle.hpe_lane.specs.OuterStage.{edge_sum, AreGreaterSums, AreOuterSoft, IsOuterBack, IsOuterForward, outer_after};
 ghost use Rattle.hpe_lane.specs.OuterSums.{best_sum, chosen_after};
+ghost use Rattle.hpe_base.specs.Parameters.{clamp};
+ghost use Rattle.hpe_lane.specs.Bounds.{edge_most, fore_most, row_most, IsRow, after_most, apart_most, around_most};
+ghost use Rattle.hpe_lane.specs.Stages.{AreJoined, AreListSoft, AreStageSoft, IsBackStep, IsForwardStep, AreEdges, IsStage};
 
 use crate::outer::{afters, greater_of};
 use hpe_base::Steps;
@@ -21,7 +23,7 @@ use std::sync::ledger::Ledger;
 pub fn gray_scores(l: &[i32], out: &mut [i32])
     requires few { (2 ≤ length l.now) × (length l.now ≤ 8) }
     requires size { length out.old ≡ 2 ^ length l.now }
-    requires l { AllWithin 16383 l.now }
+    requires l { AllWithin clamp l.now }
     ensures { (v : ℕ) → v < 2 ^ length l.now → number_at out.new v ≡ gray_from 0 l.now v }
 {
     let m = l.len();
@@ -38,8 +40,8 @@ pub fn gray_scores(l: &[i32], out: &mut [i32])
 #[inline(always)]
 pub(crate) fn mirror(low: &[i32], high: &mut [i32], x: i32)
     requires same { length low.now ≡ length high.old }
-    requires low { AllWithin (7 * 16383) low.now }
-    requires x { (x ≤ℤ pos 16383) × (pos 0 ≤ℤ (x +ℤ pos 16383)) }
+    requires low { AllWithin (7 * clamp) low.now }
+    requires x { (x ≤ℤ pos clamp) × (pos 0 ≤ℤ (x +ℤ pos clamp)) }
     ensures { (j : ℕ) → j < length low.now → number_at high.new j ≡ x +ℤ number_at low.now (length low.now - 1 - j) }
 {
     let n = low.len();
@@ -50,14 +52,11 @@ pub(crate) fn mirror(low: &[i32], high: &mut [i32], x: i32)
 
 /// From each state, what each symbol scores: its count, and each `l[i]` whose input bit is 1.
 pub fn edge_scores(counts: &[u16], l: &[i32], from0: &mut [i32], from1: &mut [i32])
-    requires few { (2 ≤ length l.now) × (length l.now ≤ 8) }
-    requires counts { length counts.now ≡ 2 ^ length l.now }
+    requires stage { IsStage counts.now l.now }
     requires from0 { length from0.old ≡ 2 ^ length l.now }
     requires from1 { length from1.old ≡ 2 ^ length l.now }
-    requires most { (i : ℕ) → slice_index counts.now i ≤ 16383 }
-    requires l { AllWithin 16383 l.now }
-    ensures from0 { (v : ℕ) → v < length counts.now → number_at from0.new v ≡ pos (slice_index counts.now v) +ℤ gray_from 0 l.now v }
-    ensures from1 { (v : ℕ) → v < length counts.now → number_at from1.new v ≡ pos (slice_index counts.now v) +ℤ gray_from 1 l.now v }
+    ensures from0 { AreEdgeScores 0 counts.now l.now from0.new }
+    ensures from1 { AreEdgeScores 1 counts.now l.now from1.new }
 {
     gray_scores(l, from0);
     add_mirrored(counts, from0, from1);
@@ -68,9 +67,10 @@ pub fn edge_scores(counts: &[u16], l: &[i32], from0: &mut [i32], from1: &mut [i3
 fn add_mirrored(counts: &[u16], scores: &[i32], sums: &mut [i32])
     requires same { length counts.now ≡ length scores.now }
     requires same_sums { length sums.old ≡ length scores.now }
-    requires most { (i : ℕ) → slice_index counts.now i ≤ 16383 }
-    requires scores { AllWithin (8 * 16383) scores.now }
-    ensures { (v : ℕ) → v < length scores.now → number_at sums.new v ≡ pos (slice_index counts.now v) +ℤ number_at scores.now (length scores.now - 1 - v) }
+    requires most { (i : ℕ) → slice_index counts.now i ≤ clamp }
+    requires scores { AllWithin (8 * clamp) scores.now }
+    ensures { (v : ℕ) → v < length scores.now
+        → number_at sums.new v ≡ pos (slice_index counts.now v) +ℤ number_at scores.now (length scores.now - 1 - v) }
 {
     let n = scores.len();
     for (v, place) in sums.iter_mut().enumerate() {
@@ -81,9 +81,10 @@ fn add_mirrored(counts: &[u16], scores: &[i32], sums: &mut [i32])
 /// Adds the count at each place.
 fn add_counts(counts: &[u16], scores: &mut [i32])
     requires same { length counts.now ≡ length scores.old }
-    requires most { (i : ℕ) → slice_index counts.now i ≤ 16383 }
-    requires scores { AllWithin (8 * 16383) scores.old }
-    ensures { (v : ℕ) → v < length counts.now → number_at scores.new v ≡ pos (slice_index counts.now v) +ℤ number_at scores.old v }
+    requires most { (i : ℕ) → slice_index counts.now i ≤ clamp }
+    requires scores { AllWithin (8 * clamp) scores.old }
+    ensures { (v : ℕ) → v < length counts.now
+        → number_at scores.new v ≡ pos (slice_index counts.now v) +ℤ number_at scores.old v }
 {
     for (v, place) in scores.iter_mut().enumerate() {
         *place += counts[v] as i32;
@@ -122,11 +123,11 @@ pub fn step_forward<L: Ledger>(
 ) -> [i32; 2]
     requires some { 2 ≤ length from0.now }
     requires same { length from1.now ≡ length from0.now }
-    requires row { (s : ℕ) → s < 2 → Within 1100000000 (number_at row s) }
-    requires edges0 { AllWithin 147447 from0.now }
-    requires edges1 { AllWithin 147447 from1.now }
+    requires row { IsRow 2 fore_most row }
+    requires edges0 { AllWithin edge_most from0.now }
+    requires edges1 { AllWithin edge_most from1.now }
     requires room { steps.old < 2 ^ 60 }
-    ensures row { (b : ℕ) → b < 2 → IsGreatest (λ (e : ℕ × ℕ). IsEdge (length from0.now) 2 e × (e.1 % 2 ≡ b)) (λ e. number_at row e.0 +ℤ edge_of from0.now from1.now e.0 e.1) (number_at result b) }
+    ensures row { IsForwardStep (length from0.now) (edge_of from0.now from1.now) row result }
     ensures step { steps.new ≡ steps.old + 1 }
 {
     steps.tick();
@@ -146,16 +147,12 @@ pub fn step_back<L: Ledger>(
     out: &mut [i32],
     steps: &mut Steps<L>,
 ) -> [i32; 2]
-    requires few { (2 ≤ length out.old) × (length out.old ≤ 8) }
-    requires from0 { length from0.now ≡ 2 ^ length out.old }
-    requires from1 { length from1.now ≡ 2 ^ length out.old }
-    requires fore { (s : ℕ) → s < 2 → Within 1100000000 (number_at fore s) }
-    requires back { (s : ℕ) → s < 2 → Within 600000000 (number_at back s) }
-    requires edges0 { AllWithin 147447 from0.now }
-    requires edges1 { AllWithin 147447 from1.now }
+    requires edges { AreEdges (length out.old) from0.now from1.now }
+    requires fore { IsRow 2 fore_most fore }
+    requires back { IsRow 2 row_most back }
     requires room { steps.old < 2 ^ 60 }
-    ensures row { (s : ℕ) → s < 2 → IsGreatest (λ (v : ℕ). v < length from0.now) (λ v. edge_of from0.now from1.now s v +ℤ number_at back (v % 2)) (number_at result s) }
-    ensures soft { (i : ℕ) → i < length out.old → IsSoft (IsEdge (length from0.now) 2) (λ (e : ℕ × ℕ). input_bit (length out.old) i e.0 e.1) (λ e. number_at fore e.0 +ℤ (edge_of from0.now from1.now e.0 e.1 +ℤ number_at back (e.1 % 2))) (number_at out.new i) }
+    ensures row { IsBackStep (length from0.now) (edge_of from0.now from1.now) back result }
+    ensures soft { AreStageSoft (length out.old) (length from0.now) (edge_of from0.now from1.now) fore back out.new }
     ensures step { steps.new ≡ steps.old + 1 }
 {
     steps.tick();
@@ -169,8 +166,8 @@ pub fn step_back<L: Ledger>(
 /// The greatest score of a state's edges with what comes after them.
 fn best_after(from: &[i32], back: [i32; 2]) -> i32
     requires some { 2 ≤ length from.now }
-    requires edges { AllWithin 147447 from.now }
-    requires back { (s : ℕ) → s < 2 → Within 600000000 (number_at back s) }
+    requires edges { AllWithin edge_most from.now }
+    requires back { IsRow 2 row_most back }
     ensures { IsGreatest (λ (v : ℕ). v < length from.now) (λ v. number_at from.now v +ℤ number_at back (v % 2)) result }
 {
     let best = best_by_parity(from, 1);
@@ -189,15 +186,11 @@ fn write_soft(
     joint: &mut [i32],
     out: &mut [i32],
 )
-    requires few { (2 ≤ length out.old) × (length out.old ≤ 8) }
-    requires from0 { length from0.now ≡ 2 ^ length out.old }
-    requires from1 { length from1.now ≡ 2 ^ length out.old }
+    requires edges { AreEdges (length out.old) from0.now from1.now }
     requires joint { length joint.old ≡ 2 ^ length out.old }
-    requires fore { (s : ℕ) → s < 2 → Within 1100000000 (number_at fore s) }
-    requires back { (s : ℕ) → s < 2 → Within 600000000 (number_at back s) }
-    requires edges0 { AllWithin 147447 from0.now }
-    requires edges1 { AllWithin 147447 from1.now }
-    ensures { (i : ℕ) → i < length out.old → IsSoft (IsEdge (length from0.now) 2) (λ (e : ℕ × ℕ). input_bit (length out.old) i e.0 e.1) (λ e. number_at fore e.0 +ℤ (edge_of from0.now from1.now e.0 e.1 +ℤ number_at back (e.1 % 2))) (number_at out.new i) }
+    requires fore { IsRow 2 fore_most fore }
+    requires back { IsRow 2 row_most back }
+    ensures { AreStageSoft (length out.old) (length from0.now) (edge_of from0.now from1.now) fore back out.new }
 {
     let around0 = [fore[0] + back[0], fore[0] + back[1]];
     let around1 = [fore[1] + back[1], fore[1] + back[0]];
@@ -211,11 +204,11 @@ fn join(from0: &[i32], around0: [i32; 2], from1: &[i32], around1: [i32; 2], join
     requires fours { length joint.old % 4 ≡ 0 }
     requires from0 { length from0.now ≡ length joint.old }
     requires from1 { length from1.now ≡ length joint.old }
-    requires around0 { (s : ℕ) → s < 2 → Within 1700000000 (number_at around0 s) }
-    requires around1 { (s : ℕ) → s < 2 → Within 1700000000 (number_at around1 s) }
-    requires edges0 { AllWithin 147447 from0.now }
-    requires edges1 { AllWithin 147447 from1.now }
-    ensures { (v : ℕ) → v < length joint.old → number_at joint.new v ≡ int_max (number_at around0 (v % 2) +ℤ number_at from0.now v) (number_at around1 (v % 2) +ℤ number_at from1.now (length joint.old - 1 - v)) }
+    requires around0 { IsRow 2 around_most around0 }
+    requires around1 { IsRow 2 around_most around1 }
+    requires edges0 { AllWithin edge_most from0.now }
+    requires edges1 { AllWithin edge_most from1.now }
+    ensures { AreJoined (length joint.old) from0.now around0 from1.now around1 joint.new }
 {
     let n = joint.len();
     for k in 0..n / 4 {
@@ -242,11 +235,11 @@ pub(crate) fn join_four(
     requires four { length joint.old ≡ 4 }
     requires from0 { length from0.now ≡ 4 }
     requires from1 { length from1.now ≡ 4 }
-    requires around0 { (s : ℕ) → s < 2 → Within 1700000000 (number_at around0 s) }
-    requires around1 { (s : ℕ) → s < 2 → Within 1700000000 (number_at around1 s) }
-    requires edges0 { AllWithin 147447 from0.now }
-    requires edges1 { AllWithin 147447 from1.now }
-    ensures { (i : ℕ) → i < 4 → number_at joint.new i ≡ int_max (number_at around0 (i % 2) +ℤ number_at from0.now i) (number_at around1 (i % 2) +ℤ number_at from1.now (3 - i)) }
+    requires around0 { IsRow 2 around_most around0 }
+    requires around1 { IsRow 2 around_most around1 }
+    requires edges0 { AllWithin edge_most from0.now }
+    requires edges1 { AllWithin edge_most from1.now }
+    ensures { AreJoined 4 from0.now around0 from1.now around1 joint.new }
 {
     let a = (around0[0] + from0[0]).max(around1[0] + from1[3]);
     let b = (around0[1] + from0[1]).max(around1[1] + from1[2]);
@@ -264,8 +257,8 @@ pub(crate) fn join_four(
 /// those of the place, or of its mirror image, in a list of half the length, to which the list is folded.
 fn fold_soft(scores: &mut [i32], out: &mut [i32])
     requires scores { length scores.old ≡ 2 ^ length out.old }
-    requires near { Near 1200294894 (length scores.old) scores.old }
-    ensures { (i : ℕ) → i < length out.old → IsSoft (λ (v : ℕ). v < 2 ^ length out.old) (input_bit (length out.old) i 0) (number_at scores.old) (number_at out.new i) }
+    requires near { Near apart_most (length scores.old) scores.old }
+    ensures { AreListSoft (length out.old) (2 ^ length out.old) (length out.old) scores.old out.new }
 {
     let mut size = scores.len();
     for (i, place) in out.iter_mut().enumerate() {
@@ -279,9 +272,11 @@ fn fold_soft(scores: &mut [i32], out: &mut [i32])
 fn fold(scores: &mut [i32]) -> i32
     requires some { 2 ≤ length scores.old }
     requires even { length scores.old % 2 ≡ 0 }
-    requires near { Near 1200294894 (length scores.old) scores.old }
-    ensures soft { IsSoft (λ (v : ℕ). v < length scores.old) (λ v. v / (length scores.old / 2)) (number_at scores.old) result }
-    ensures folded { (v : ℕ) → v < length scores.old / 2 → number_at scores.new v ≡ int_max (number_at scores.old v) (number_at scores.old (length scores.old - 1 - v)) }
+    requires near { Near apart_most (length scores.old) scores.old }
+    ensures soft { IsSoft (λ (v : ℕ). v < length scores.old) (λ v. v / (length scores.old / 2))
+        (number_at scores.old) result }
+    ensures folded { (v : ℕ) → v < length scores.old / 2
+        → number_at scores.new v ≡ int_max (number_at scores.old v) (number_at scores.old (length scores.old - 1 - v)) }
 {
     let half = scores.len() / 2;
     let (low, high) = scores.split_at_mut(half);
@@ -293,7 +288,8 @@ fn fold(scores: &mut [i32]) -> i32
 /// Raises each score to that of its mirror image.
 fn raise(low: &mut [i32], high: &[i32])
     requires same { length high.now ≡ length low.old }
-    ensures { (v : ℕ) → v < length low.old → number_at low.new v ≡ int_max (number_at low.old v) (number_at high.now (length high.now - 1 - v)) }
+    ensures { (v : ℕ) → v < length low.old
+        → number_at low.new v ≡ int_max (number_at low.old v) (number_at high.now (length high.now - 1 - v)) }
 {
     let n = high.len();
     for (v, place) in low.iter_mut().enumerate() {
@@ -316,10 +312,10 @@ pub(crate) fn greatest(scores: &[i32]) -> i32
 
 /// The greater of `a + x` and `b + y`.
 fn greater_sum(a: i32, x: i32, b: i32, y: i32) -> i32
-    requires a { Within 600000000 a }
-    requires x { Within 600049149 x }
-    requires b { Within 600000000 b }
-    requires y { Within 600049149 y }
+    requires a { Within row_most a }
+    requires x { Within after_most x }
+    requires b { Within row_most b }
+    requires y { Within after_most y }
     ensures { result ≡ int_max (a +ℤ x) (b +ℤ y) }
 {
     (a + x).max(b + y)
@@ -327,9 +323,10 @@ fn greater_sum(a: i32, x: i32, b: i32, y: i32) -> i32
 
 /// For each state, the greater score of the two edges that lead to it.
 fn forward_row(row: [i32; 4], l: [i32; 3]) -> [i32; 4]
-    requires row { (q : ℕ) → q < 4 → Within 600000000 (number_at row q) }
-    requires l { AllWithin 16383 l }
-    ensures { (q : ℕ) → q < 4 → number_at result q ≡ int_max (number_at row (2 * (q % 2)) +ℤ edge_sum l (2 * (q % 2)) (q / 2)) (number_at row (2 * (q % 2) + 1) +ℤ edge_sum l (2 * (q % 2) + 1) (q / 2)) }
+    requires row { IsRow 4 row_most row }
+    requires l { AllWithin clamp l }
+    ensures { AreGreaterSums (λ q. edge_sum l (2 * (q % 2)) (q / 2))
+        (λ q. edge_sum l (2 * (q % 2) + 1) (q / 2)) row result }
 {
     let second = l[1] + l[2];
     let all = l[0] + second;
@@ -346,10 +343,10 @@ fn forward_row(row: [i32; 4], l: [i32; 3]) -> [i32; 4]
 /// `row` is what they score before it, each at most 600,000,000 in size, and `l` the a-priori numbers of the stage's
 /// three outputs, 0 for one that isn't kept.
 pub fn outer_forward<L: Ledger>(row: [i32; 4], l: [i32; 3], steps: &mut Steps<L>) -> [i32; 4]
-    requires row { (q : ℕ) → q < 4 → Within 600000000 (number_at row q) }
-    requires l { AllWithin 16383 l }
+    requires row { IsRow 4 row_most row }
+    requires l { AllWithin clamp l }
     requires room { steps.old < 2 ^ 60 }
-    ensures row { (q : ℕ) → q < 4 → IsGreatest (λ (e : ℕ × ℕ). IsEdge 2 4 e × (outer_next e.0 e.1 ≡ q)) (λ e. number_at row e.0 +ℤ edge_sum l e.0 e.1) (number_at result q) }
+    ensures row { IsOuterForward l row result }
     ensures step { steps.new ≡ steps.old + 1 }
 {
     let next = forward_row(row, l);
@@ -359,8 +356,8 @@ pub fn outer_forward<L: Ledger>(row: [i32; 4], l: [i32; 3], steps: &mut Steps<L>
 
 /// The greatest of the four sums.
 fn greatest_sum(fore: [i32; 4], after: [i32; 4]) -> i32
-    requires fore { (q : ℕ) → q < 4 → Within 600000000 (number_at fore q) }
-    requires after { (q : ℕ) → q < 4 → Within 600049149 (number_at after q) }
+    requires fore { IsRow 4 row_most fore }
+    requires after { IsRow 4 after_most after }
     ensures { result ≡ best_sum (number_at fore) (number_at after) }
 {
     let low = greater_sum(fore[0], after[0], fore[1], after[1]);
@@ -370,9 +367,9 @@ fn greatest_sum(fore: [i32; 4], after: [i32; 4]) -> i32
 
 /// The greatest of the sums with `one` less the greatest of those with `zero`.
 fn difference(fore: [i32; 4], zero: [i32; 4], one: [i32; 4]) -> i32
-    requires fore { (q : ℕ) → q < 4 → Within 600000000 (number_at fore q) }
-    requires zero { (q : ℕ) → q < 4 → Within 600049149 (number_at zero q) }
-    requires one { (q : ℕ) → q < 4 → Within 600049149 (number_at one q) }
+    requires fore { IsRow 4 row_most fore }
+    requires zero { IsRow 4 after_most zero }
+    requires one { IsRow 4 after_most one }
     ensures { result ≡ best_sum (number_at fore) (number_at one) -ℤ best_sum (number_at fore) (number_at zero) }
 {
     greatest_sum(fore, one) - greatest_sum(fore, zero)
@@ -381,10 +378,10 @@ fn difference(fore: [i32; 4], zero: [i32; 4], one: [i32; 4]) -> i32
 /// The soft values of the input and of the three outputs, where a state scores `zero` from the stage on with input 0
 /// and `one` with input 1.
 fn soft_values(fore: [i32; 4], zero: [i32; 4], one: [i32; 4]) -> [i32; 4]
-    requires fore { (q : ℕ) → q < 4 → Within 600000000 (number_at fore q) }
-    requires zero { (q : ℕ) → q < 4 → Within 600049149 (number_at zero q) }
-    requires one { (q : ℕ) → q < 4 → Within 600049149 (number_at one q) }
-    ensures { (k : ℕ) → k < 4 → IsSoft (IsEdge 2 4) (λ (e : ℕ × ℕ). soft_bit k e.0 e.1) (λ e. number_at fore e.0 +ℤ chosen_after zero one e.0 e.1) (number_at result k) }
+    requires fore { IsRow 4 row_most fore }
+    requires zero { IsRow 4 after_most zero }
+    requires one { IsRow 4 after_most one }
+    ensures { AreOuterSoft fore (chosen_after zero one) result }
 {
     let input = difference(fore, zero, one);
     // the first output isn't the input where b is 1, the second and third where one of a and b is
@@ -411,12 +408,12 @@ pub fn outer_back<L: Ledger>(
     back: [i32; 4],
     steps: &mut Steps<L>,
 ) -> ([i32; 4], [i32; 4])
-    requires fore { (q : ℕ) → q < 4 → Within 600000000 (number_at fore q) }
-    requires l { AllWithin 16383 l }
-    requires back { (q : ℕ) → q < 4 → Within 600000000 (number_at back q) }
+    requires fore { IsRow 4 row_most fore }
+    requires l { AllWithin clamp l }
+    requires back { IsRow 4 row_most back }
     requires room { steps.old < 2 ^ 60 }
-    ensures row { (p : ℕ) → p < 4 → IsGreatest (λ (x : ℕ). x < 2) (λ x. edge_sum l p x +ℤ number_at back (outer_next p x)) (number_at result.0 p) }
-    ensures soft { (k : ℕ) → k < 4 → IsSoft (IsEdge 2 4) (λ (e : ℕ × ℕ). soft_bit k e.0 e.1) (λ e. number_at fore e.0 +ℤ (edge_sum l e.0 e.1 +ℤ number_at back (outer_next e.0 e.1))) (number_at result.1 k) }
+    ensures row { IsOuterBack l back result.0 }
+    ensures soft { AreOuterSoft fore (outer_after l back) result.1 }
     ensures step { steps.new ≡ steps.old + 1 }
 {
     steps.tick();

@@ -7,10 +7,11 @@
 //! All edges to a state end in the same bit, so a step forward needs only the greatest score at even places and that at
 //! odd ones, of each list. A step back gives a soft value for each input bit too, from one list of joint scores.
 ghost use Rattle.std.specs.Prelude.{◌≡◌, ℕ, ◌+◌, ◌%◌, ◌<◌, ◌≤◌, ◌^◌, ◌+ℤ◌, length};
-ghost use Rattle.hpe_base.specs.Sizes.{number_at, Within, AllWithin};
-ghost use Rattle.hpe_base.specs.Greatest.{IsGreatest, IsSoft};
-ghost use Rattle.hpe_base.specs.Trellis.{IsEdge};
-ghost use Rattle.hpe_lane.specs.Edges.{edge_of, input_bit};
+ghost use Rattle.hpe_base.specs.Sizes.{number_at, AllWithin};
+ghost use Rattle.hpe_base.specs.Greatest.{IsGreatest};
+ghost use Rattle.hpe_lane.specs.Edges.{edge_of};
+ghost use Rattle.hpe_lane.specs.Bounds.{edge_most, fore_most, row_most, IsRow};
+ghost use Rattle.hpe_lane.specs.Stages.{AreStageSoft, IsBackStep, IsForwardStep, AreEdges};
 
 use crate::ends::best_ends;
 use crate::fold::fold_soft;
@@ -28,11 +29,11 @@ pub fn step_forward<L: Ledger>(
 ) -> [i32; 2]
     requires some { 2 ≤ length from0.now }
     requires same { length from1.now ≡ length from0.now }
-    requires row { (s : ℕ) → s < 2 → Within 1100000000 (number_at row s) }
-    requires edges0 { AllWithin 147447 from0.now }
-    requires edges1 { AllWithin 147447 from1.now }
+    requires row { IsRow 2 fore_most row }
+    requires edges0 { AllWithin edge_most from0.now }
+    requires edges1 { AllWithin edge_most from1.now }
     requires room { steps.old < 2 ^ 60 }
-    ensures row { (b : ℕ) → b < 2 → IsGreatest (λ (e : ℕ × ℕ). IsEdge (length from0.now) 2 e × (e.1 % 2 ≡ b)) (λ e. number_at row e.0 +ℤ edge_of from0.now from1.now e.0 e.1) (number_at result b) }
+    ensures row { IsForwardStep (length from0.now) (edge_of from0.now from1.now) row result }
     ensures step { steps.new ≡ steps.old + 1 }
 {
     steps.tick();
@@ -53,16 +54,12 @@ pub fn step_back<L: Ledger>(
     out: &mut [i32],
     steps: &mut Steps<L>,
 ) -> [i32; 2]
-    requires few { (2 ≤ length out.old) × (length out.old ≤ 8) }
-    requires from0 { length from0.now ≡ 2 ^ length out.old }
-    requires from1 { length from1.now ≡ 2 ^ length out.old }
-    requires fore { (s : ℕ) → s < 2 → Within 1100000000 (number_at fore s) }
-    requires back { (s : ℕ) → s < 2 → Within 600000000 (number_at back s) }
-    requires edges0 { AllWithin 147447 from0.now }
-    requires edges1 { AllWithin 147447 from1.now }
+    requires edges { AreEdges (length out.old) from0.now from1.now }
+    requires fore { IsRow 2 fore_most fore }
+    requires back { IsRow 2 row_most back }
     requires room { steps.old < 2 ^ 60 }
-    ensures row { (s : ℕ) → s < 2 → IsGreatest (λ (v : ℕ). v < length from0.now) (λ v. edge_of from0.now from1.now s v +ℤ number_at back (v % 2)) (number_at result s) }
-    ensures soft { (i : ℕ) → i < length out.old → IsSoft (IsEdge (length from0.now) 2) (λ (e : ℕ × ℕ). input_bit (length out.old) i e.0 e.1) (λ e. number_at fore e.0 +ℤ (edge_of from0.now from1.now e.0 e.1 +ℤ number_at back (e.1 % 2))) (number_at out.new i) }
+    ensures row { IsBackStep (length from0.now) (edge_of from0.now from1.now) back result }
+    ensures soft { AreStageSoft (length out.old) (length from0.now) (edge_of from0.now from1.now) fore back out.new }
     ensures step { steps.new ≡ steps.old + 1 }
 {
     steps.tick();
@@ -77,8 +74,8 @@ pub fn step_back<L: Ledger>(
 #[inline(always)]
 fn best_after(from: &[i32], back: [i32; 2]) -> i32
     requires some { 2 ≤ length from.now }
-    requires edges { AllWithin 147447 from.now }
-    requires back { (s : ℕ) → s < 2 → Within 600000000 (number_at back s) }
+    requires edges { AllWithin edge_most from.now }
+    requires back { IsRow 2 row_most back }
     ensures { IsGreatest (λ (v : ℕ). v < length from.now) (λ v. number_at from.now v +ℤ number_at back (v % 2)) result }
 {
     let best = best_ends(from);
@@ -98,15 +95,11 @@ fn write_soft(
     joint: &mut [i32],
     out: &mut [i32],
 )
-    requires few { (2 ≤ length out.old) × (length out.old ≤ 8) }
-    requires from0 { length from0.now ≡ 2 ^ length out.old }
-    requires from1 { length from1.now ≡ 2 ^ length out.old }
+    requires edges { AreEdges (length out.old) from0.now from1.now }
     requires joint { length joint.old ≡ 2 ^ length out.old }
-    requires fore { (s : ℕ) → s < 2 → Within 1100000000 (number_at fore s) }
-    requires back { (s : ℕ) → s < 2 → Within 600000000 (number_at back s) }
-    requires edges0 { AllWithin 147447 from0.now }
-    requires edges1 { AllWithin 147447 from1.now }
-    ensures { (i : ℕ) → i < length out.old → IsSoft (IsEdge (length from0.now) 2) (λ (e : ℕ × ℕ). input_bit (length out.old) i e.0 e.1) (λ e. number_at fore e.0 +ℤ (edge_of from0.now from1.now e.0 e.1 +ℤ number_at back (e.1 % 2))) (number_at out.new i) }
+    requires fore { IsRow 2 fore_most fore }
+    requires back { IsRow 2 row_most back }
+    ensures { AreStageSoft (length out.old) (length from0.now) (edge_of from0.now from1.now) fore back out.new }
 {
     let around0 = [fore[0] + back[0], fore[0] + back[1]];
     let around1 = [fore[1] + back[1], fore[1] + back[0]];

@@ -1,3 +1,4 @@
+//! The kernels on numbers worked by hand, and beside the plain ones.
 mod inner;
 mod outer;
 mod plain;

@@ -14,7 +14,8 @@ use Rattle.toml.specs.declared.value.Value.{Value}
 use Rattle.hpe_profile.specs.ProfileText.{all_keys, names_key, knows_all, is_integer, are_integers, table_of, first_refusal, profile_of_table, with_cause, fields_in}
 
 -- the keys of a table are those of its entries
-pub knows_entries : (es : List (String Global × Value)) → list_all (λ name. names_key all_keys (string_bytes name)) (keys_of es) ≡ knows_all (members_view es)
+pub knows_entries : (es : List (String Global × Value))
+    → list_all (λ name. names_key all_keys (string_bytes name)) (keys_of es) ≡ knows_all (members_view es)
 knows_entries [] = refl
 knows_entries (e ∷ es) = ap (λ b. names_key all_keys (string_bytes e.0) && b) (knows_entries es)
 
@@ -24,7 +25,8 @@ integers_each [] = refl
 integers_each (v ∷ vs) = ap (λ b. is_integer (view v) && b) (integers_each vs)
 
 -- a text that is read
-pub table_read : (text : List ℕ) (table : Members) → IsUtf8 text → parse_document text ≡ Some table → table_of text ≡ Some table
+pub table_read : (text : List ℕ) (table : Members) → IsUtf8 text → parse_document text ≡ Some table
+    → table_of text ≡ Some table
 table_read text table utf8 read = rw (is_utf8-from_IsUtf8 text utf8) read
 
 -- a text that is refused
@@ -41,11 +43,13 @@ unfolding profile_of_table
 unknown_table table unknown = rw unknown refl
 
 -- a table with a value that is refused
-pub refused_table : (table : Members) (e : ReadFault) → knows_all table ≡ true → first_refusal table all_keys ≡ Some e → profile_of_table table ≡ Err e
+pub refused_table : (table : Members) (e : ReadFault) → knows_all table ≡ true → first_refusal table all_keys ≡ Some e
+    → profile_of_table table ≡ Err e
 unfolding profile_of_table
 refused_table table e known refused = rw (known, refused) refl
 
 -- a table of which no value is refused
-pub whole_table : (table : Members) → knows_all table ≡ true → first_refusal table all_keys ≡ None → profile_of_table table ≡ with_cause (profile_of (fields_in table))
+pub whole_table : (table : Members) → knows_all table ≡ true → first_refusal table all_keys ≡ None
+    → profile_of_table table ≡ with_cause (profile_of (fields_in table))
 unfolding profile_of_table
 whole_table table known none = rw (known, none) refl

@@ -20,12 +20,12 @@ use Rattle.hpe_profile.specs.declared.fault.ReadFault.TheVariants as fault
 
 -- ---- keys
 
--- the keys, in the order in which they are looked at; count_octets follows once the receiver takes counts of two octets
+-- the keys, in the order in which they are looked at
 abbrev pub all_keys : List Key
 all_keys =
     key.Order ∷ key.Rate ∷ key.FrameOctets ∷ key.FrameMarker ∷ key.Taps ∷ key.Seed ∷ key.Check
     ∷ key.Columns ∷ key.Rows ∷ key.Delay ∷ key.Marker ∷ key.Repeat ∷ key.Rounds ∷ key.Search
-    ∷ key.Scale ∷ []
+    ∷ key.CountOctets ∷ key.Scale ∷ []
 
 -- the key as it is written
 abbrev pub key_name : Key → List ℕ
@@ -160,7 +160,7 @@ fields_in table = record {
   repeat = number_at table key.Repeat (pos 1);
   rounds = number_at table key.Rounds (pos 16);
   search = number_at table key.Search (pos 1);
-  count_octets = pos 1;
+  count_octets = number_at table key.CountOctets (pos 1);
   scale = number_at table key.Scale (pos 8);
 }
 

@@ -11,9 +11,8 @@ use hpe_base::Key;
 use toml::value::Array;
 use toml::{Table, Value};
 
-/// The keys, in the order in which they are looked at. The one for the octets of a count follows once the receiver takes
-/// counts of two octets.
-pub const KEYS: [Key; 15] = [
+/// The keys, in the order in which they are looked at.
+pub const KEYS: [Key; 16] = [
     Key::Order,
     Key::Rate,
     Key::FrameOctets,
@@ -28,6 +27,7 @@ pub const KEYS: [Key; 15] = [
     Key::Repeat,
     Key::Rounds,
     Key::Search,
+    Key::CountOctets,
     Key::Scale,
 ];
 
@@ -73,7 +73,7 @@ fn is_key(name: &str) -> bool
     match name {
         "order" | "rate" | "frame_octets" | "frame_marker" | "taps" | "seed" | "check" => true,
         "columns" | "rows" | "delay" | "marker" | "repeat" | "rounds" | "search" => true,
-        "scale" => true,
+        "count_octets" | "scale" => true,
         _ => false,
     }
 }

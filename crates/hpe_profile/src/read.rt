@@ -14,7 +14,8 @@ use toml::Table;
 /// The table that the octets write.
 fn table_of(alloc: Global, text: &[u8]) -> Result<Table, ReadFault>
     ensures ok { IfOk result (λ t. table_of text.now ≡ Some (table_view t)) }
-    ensures refused { IfErr result (λ e. (e ≡ ReadFault.NoMemory) ⊎ ((e ≡ ReadFault.Text) × (table_of text.now ≡ None))) }
+    ensures refused { IfErr result (λ e. (e ≡ ReadFault.NoMemory)
+        ⊎ ((e ≡ ReadFault.Text) × (table_of text.now ≡ None))) }
 {
     match toml::table_from_slice(alloc, text) {
         Ok(table) => Ok(table),
@@ -29,7 +30,8 @@ fn table_of(alloc: Global, text: &[u8]) -> Result<Table, ReadFault>
 
 /// The profile of the fields that the table writes.
 fn profile_in(alloc: Global, table: &Table) -> Result<Profile, ReadFault>
-    ensures { (result ≡ with_cause (profile_of (fields_in (table_view table.now)))) ⊎ (result ≡ Err ReadFault.NoMemory) }
+    ensures { (result ≡ with_cause (profile_of (fields_in (table_view table.now))))
+        ⊎ (result ≡ Err ReadFault.NoMemory) }
 {
     let Ok(marker) = marker_in(alloc, table) else {
         return Err(ReadFault::NoMemory);

@@ -6,7 +6,7 @@ use std::test::Fail;
 
 #[test]
 fn worked_texts(rt: HostRuntime) -> Result<(), Fail> {
-    let cases: [(&[u8], Option<ReadFault>); 15] = [
+    let cases: [(&[u8], Option<ReadFault>); 17] = [
         (b"order = 16\nrate = \"1/3\"\n", None),
         (b"", Some(ReadFault::Missing(Key::Order))),
         (b"order = 16", Some(ReadFault::Missing(Key::Rate))),
@@ -38,10 +38,14 @@ fn worked_texts(rt: HostRuntime) -> Result<(), Fail> {
         // an unknown key comes before what is missing, and what is missing or of another kind before a range
         (b"row = 4", Some(ReadFault::Unknown)),
         (b"order = 5\nrate = 3", Some(ReadFault::Kind(Key::Rate))),
-        // a key of the octets of a count is not known yet
+        (b"order = 16\nrate = \"1/3\"\ncount_octets = 2", None),
         (
-            b"order = 16\nrate = \"1/3\"\ncount_octets = 1",
-            Some(ReadFault::Unknown),
+            b"order = 16\nrate = \"1/3\"\ncount_octets = 3",
+            Some(ReadFault::Profile(ProfileFault::Range(Key::CountOctets))),
+        ),
+        (
+            b"order = 16\nrate = \"1/3\"\nscale = true\ncount_octets = 2.0",
+            Some(ReadFault::Kind(Key::CountOctets)),
         ),
         (b"order = ", Some(ReadFault::Text)),
         (b"\xFF", Some(ReadFault::Text)),

@@ -120,7 +120,7 @@ pub fn fields_in<'a>(
         repeat: number_at(table, Key::Repeat, 1),
         rounds: number_at(table, Key::Rounds, 16),
         search: number_at(table, Key::Search, 1),
-        count_octets: 1,
+        count_octets: number_at(table, Key::CountOctets, 1),
         scale: number_at(table, Key::Scale, 8),
     }
 }

@@ -1,4 +1,7 @@
 -- The words of a batch on their way to the outlet.
+use Rattle.std.specs.Prelude.{Result, Ok, Err, OnOk, OnErr, IsErrOf}
+use Rattle.hpe_recv.specs.declared.outlet.Cut.{Cut}
+use Rattle.hpe_recv.specs.declared.outlet.Cut.TheVariants as cut
 use Rattle.std.proofs.Common.{rules, ◌≡◌, ◌≤◌, ◌<◌, ◌+◌, ◌-◌, ◌++◌, ◌∷◌, [], ℕ, List, length, map, take, drop, ap, ap₂, sym, subst, ◌∙◌, refl, arith, append_assoc, append-nil, Some, None, Bool, true, false, if◌then◌else◌, take-add}
 use Rattle.std.specs.declared.option.Option.{Option}
 use Rattle.std.specs.Io.KnownBytes.{append_known}
@@ -7,11 +10,10 @@ use Rattle.std.proofs.lemmas.Grind.{take_at_read}
 use Rattle.hpe_base.specs.Parameters.{Parameters}
 use Rattle.hpe_base.specs.Rounds.{Verdict, Lost, verdict_of}
 use Rattle.hpe_base.specs.Decoded.{word_lines}
-use Rattle.hpe_turn.specs.declared.verdict.Verdict.TheVariants as turn
 use Rattle.hpe_turn.specs.declared.verdict.Verdict as answer
 use Rattle.hpe_crew.specs.Crewing.{Crewing, loaded_verdict}
 use Rattle.hpe_crew.specs.Answering.{verdict_with}
-use Rattle.hpe_recv.specs.Delivering.{Delivering, HasDelivered, PutsPart}
+use Rattle.hpe_recv.specs.Delivering.{Delivering, HasDelivered, PutsPart, PutsLines, ByAnswer, ByCut}
 use Rattle.hpe_recv.specs.Batching.{Batching, completed, loaded_verdicts, waiting, late_count, ready, IsAlone, HasBatched}
 use Rattle.hpe_recv.proofs.Settling.{puts_part_more}
 
@@ -42,19 +44,42 @@ first_front c vs i n b =
 pub puts_front : (p : Parameters) (vs more ws : List Verdict) (f f' r r' : Option (List ℕ)) → ws ≡ vs ++ more → PutsPart p vs f f' r r' → PutsPart p ws f f' r r'
 puts_front p vs more ws f f' r r' e h = subst (λ (xs : List Verdict). PutsPart p xs f f' r r') (sym e) (puts_part_more p vs more f f' r r' h)
 
--- a report that grew by the lines of some first words
-abbrev pub HasSomeLines : List Verdict → Option (List ℕ) → Option (List ℕ) → Type 0
-HasSomeLines vs begin told = (n : ℕ) × (told ≡ append_known begin (word_lines 0 (take n vs)))
-
-pub lines_of_front : (vs more ws : List Verdict) (begin told : Option (List ℕ)) → ws ≡ vs ++ more → told ≡ append_known begin (word_lines 0 vs) → HasSomeLines ws begin told
+-- first lines of a front are first lines of the whole
+pub lines_of_front : (vs more ws : List Verdict) (begin told : Option (List ℕ)) → ws ≡ vs ++ more → told ≡ append_known begin (word_lines 0 vs) → PutsLines ws begin told
 lines_of_front vs more ws begin told e h =
     (length vs, h ∙ ap (λ (xs : List Verdict). append_known begin (word_lines 0 xs)) (sym (ap (take (length vs)) e ∙ take_at vs more (length vs) refl)))
 
 -- the first words of a front are first words of the whole
-pub some_lines_front : (vs more ws : List Verdict) (begin told : Option (List ℕ)) → ws ≡ vs ++ more → HasSomeLines vs begin told → HasSomeLines ws begin told
+pub some_lines_front : (vs more ws : List Verdict) (begin told : Option (List ℕ)) → ws ≡ vs ++ more → PutsLines vs begin told → PutsLines ws begin told
 some_lines_front vs more ws begin told e h =
     lines_of_front (take h.0 vs) (drop h.0 vs ++ more) ws begin told
     (e ∙ ap (λ (xs : List Verdict). xs ++ more) (sym (take-append-drop h.0 vs)) ∙ append_assoc (take h.0 vs) (drop h.0 vs) more) h.1
+
+-- ---- what was put, by the answer
+
+pub front_at : (F L : Type 0) (e : Cut) → ByCut e F L → F
+front_at F L cut.Frames h = h.0
+front_at F L cut.Report h = h
+
+pub lines_at : {T : Type 0} (F L : Type 0) (e : Cut) → ByCut e F L → IsErrOf {T = T} (Err e) cut.Frames → L
+lines_at F L cut.Frames h is = h.1
+lines_at F L cut.Report h is = absurd cc
+
+pub put_at : {T : Type 0} (F L : Type 0) (e : Cut) → F → (IsErrOf {T = T} (Err e) cut.Frames → L) → ByCut e F L
+put_at F L cut.Frames f l = (f, l refl)
+put_at F L cut.Report f l = f
+
+pub all_of : {T : Type 0} (A F L : Type 0) (r : Result T Cut) → ByAnswer r A F L → OnOk r A
+all_of A F L (Ok x) h = h
+all_of A F L (Err e) h = tt
+
+pub front_of : {T : Type 0} (A F L : Type 0) (r : Result T Cut) → ByAnswer r A F L → OnErr r F
+front_of A F L (Ok x) h = tt
+front_of A F L (Err e) h = front_at F L e h
+
+pub lines_of : {T : Type 0} (A F L : Type 0) (r : Result T Cut) → ByAnswer r A F L → IsErrOf r cut.Frames → L
+lines_of A F L (Ok x) h is = absurd cc
+lines_of A F L (Err e) h is = lines_at F L e h is
 
 -- ---- a batch
 
@@ -230,6 +255,6 @@ puts_first p q c a block verdicts i n f f' r r' same b within e h =
     (subst (λ (vs : List Verdict). PutsPart q vs f f' r r') (ap (λ (v : Verdict). (verdicts ++ take i (loaded_verdicts c)) ++ v ∷ []) e ∙ sym (first_more c verdicts i (omega arith))) h))
 
 pub lines_first : (c : Crewing) (verdicts : List Verdict) (i n : ℕ) (begin told : Option (List ℕ)) → i < n → told ≡ append_known begin (word_lines 0 (verdicts ++ take i (loaded_verdicts c)))
-    → HasSomeLines (verdicts ++ take n (loaded_verdicts c)) begin told
+    → PutsLines (verdicts ++ take n (loaded_verdicts c)) begin told
 lines_first c verdicts i n begin told b h =
     lines_of_front (verdicts ++ take i (loaded_verdicts c)) (take (n - i) (drop i (loaded_verdicts c))) (verdicts ++ take n (loaded_verdicts c)) begin told (first_front c verdicts i n (omega arith)) h

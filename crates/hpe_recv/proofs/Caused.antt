@@ -2,7 +2,7 @@
 use Rattle.std.proofs.Common.{◌≡◌, ℕ, ◌∙◌, refl, subst, Ok, Err}
 use Rattle.std.specs.Prelude.{Result}
 use Rattle.hpe_io.specs.Devices.{Rose}
-use Rattle.hpe_recv.specs.Causes.{IsCutBy, HasCutCause, IsReadBy, IsLeftBy, HasUntakenCause, HasFaultCause}
+use Rattle.hpe_recv.specs.Causes.{IsCutBy, IsReadBy, IsLeftBy, HasUntakenCause, HasFaultCause}
 use Rattle.hpe_recv.specs.Receiving.{fault_of}
 use Rattle.hpe_recv.specs.declared.intake.Untaken.{Untaken}
 use Rattle.hpe_recv.specs.declared.intake.Untaken.TheVariants as untaken
@@ -14,11 +14,6 @@ use Rattle.hpe_recv.specs.declared.outlet.Cut.TheVariants as cut
 pub cut_after : (e : Cut) (f0 f1 f2 r0 r1 r2 : ℕ) → f1 ≡ f0 → r1 ≡ r0 → IsCutBy f1 f2 r1 r2 e → IsCutBy f0 f2 r0 r2 e
 cut_after cut.Frames f0 f1 f2 r0 r1 r2 f r h = (subst (λ (n : ℕ). Rose n f2) f h.0, h.1 ∙ r)
 cut_after cut.Report f0 f1 f2 r0 r1 r2 f r h = (h.0 ∙ f, subst (λ (n : ℕ). Rose n r2) r h.1)
-
--- any answer of theirs
-pub cut_cause-after : {T : Type 0} (result : Result T Cut) (f0 f1 f2 r0 r1 r2 : ℕ) → f1 ≡ f0 → r1 ≡ r0 → HasCutCause f1 f2 r1 r2 result → HasCutCause f0 f2 r0 r2 result
-cut_cause-after (Ok x) f0 f1 f2 r0 r1 r2 f r h = (h.0 ∙ f, h.1 ∙ r)
-cut_cause-after (Err e) f0 f1 f2 r0 r1 r2 f r h = cut_after e f0 f1 f2 r0 r1 r2 f r h
 
 -- a failure that isn't of a sink alone
 pub left_after : (e : Untaken) (i0 i1 i2 f0 f1 f2 r0 r1 r2 : ℕ) → i1 ≡ i0 → f1 ≡ f0 → r1 ≡ r0 → IsLeftBy i1 i2 f1 f2 r1 r2 e → IsLeftBy i0 i2 f0 f2 r0 r2 e

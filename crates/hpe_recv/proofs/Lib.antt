@@ -1,12 +1,11 @@
-pub mod SymbolSums
-pub mod CourseRows
-pub mod CourseSettled
+pub mod Collected
 pub mod Settling
 pub mod Fronts
 pub mod Delivered
 pub mod Groups
 pub mod WordRows
 pub mod TakenParts
+pub mod Counting
 pub mod Taking
 pub mod Decoding
 pub mod Received

@@ -1,12 +1,24 @@
 -- Whose count of faults rose in a call, by its answer.
 use Rattle.std.specs.Prelude.{ℕ, ◌≡◌, Result, Ok, Err}
 use Rattle.hpe_io.specs.Devices.{Rose}
+use Rattle.hpe_io.specs.declared.intake.IntakeFault.{IntakeFault}
+use Rattle.hpe_io.specs.declared.intake.IntakeFault.TheVariants as intake
 use Rattle.hpe_recv.specs.declared.intake.Untaken.{Untaken}
 use Rattle.hpe_recv.specs.declared.intake.Untaken.TheVariants as untaken
 use Rattle.hpe_recv.specs.declared.outlet.Cut.{Cut}
 use Rattle.hpe_recv.specs.declared.outlet.Cut.TheVariants as cut
 use Rattle.hpe_recv.specs.declared.receiver.RecvFault.{RecvFault}
 use Rattle.hpe_recv.specs.declared.receiver.RecvFault.TheVariants.{Read, Write, Report, TooLong, NoMarker}
+
+-- a fault of the intake, as the cause that an input was left
+abbrev pub cause_of_intake : IntakeFault → Untaken
+cause_of_intake intake.Read = untaken.Read
+cause_of_intake intake.TooLong = untaken.TooLong
+
+-- a failure of a sink, as such a cause
+abbrev pub cause_of_cut : Cut → Untaken
+cause_of_cut cut.Frames = untaken.Frames
+cause_of_cut cut.Report = untaken.Report
 
 -- the count of the sink that failed, and no other
 abbrev pub IsCutBy : ℕ → ℕ → ℕ → ℕ → Cut → Type 0

@@ -1,14 +1,12 @@
-pub mod Rows
-pub mod Wording
-pub mod WordsView
+pub mod Settled
 pub mod Causes
 pub mod Delivering
 pub mod Batching
 pub mod BatchView
 pub mod OutletView
-pub mod Following
-pub mod CourseView
 pub mod Streaming
+pub mod Counting
+pub mod CountingView
 pub mod Reading
 pub mod StreamView
 pub mod Receiving

@@ -12,13 +12,13 @@ use Rattle.hpe_recv.specs.declared.receiver.Receiver.TheInside.{Inside}
 abbrev pub receiving : Inside → Receiving
 receiving r = record {
   parameters = r.reception.finder.parameters;
-  workers = r.reception.stream.course.batch.crew.workers;
+  workers = r.reception.stream.batch.crew.workers;
   fresh = r.fresh;
   counts = length r.reception.finder.counts;
-  begun = length r.reception.stream.begun;
-  waiting = waiting_in r.reception.stream.course.words.unweaver;
-  sums = length r.reception.stream.course.words.sums
-      + length r.reception.stream.course.batch.crew.loads
+  begun = length r.reception.stream.rows.begun;
+  waiting = waiting_in r.reception.stream.rows.unweaver;
+  sums = r.reception.stream.filled * positions r.reception.finder.parameters.order
+      + length r.reception.stream.batch.crew.loads
       * (codeword_symbols r.reception.finder.parameters.order * positions r.reception.finder.parameters.order);
 }
 
@@ -26,12 +26,13 @@ receiving r = record {
 pub record IsNew (r : Inside) : Type 0 where
   pub counts : r.reception.finder.counts ≡ []
   pub stands : (frames report : Option (List ℕ)) → HasTaken r.reception.stream [] frames frames report report
-  pub unspent : r.reception.stream.course.batch.outlet.scan.spent ≡ false
-  pub blocks : blocks_due r.reception.stream.course.batch ≡ 0
+  pub unspent : r.reception.stream.batch.outlet.scan.spent ≡ false
+  pub blocks : blocks_due r.reception.stream.batch ≡ 0
 
 -- the search keeps what it has room for, and until something has come the stream has taken nothing
 pub record IsReceiving (r : Inside) : Type 0 where
-  pub stream : r.reception.stream.course.parameters ≡ r.reception.finder.parameters
+  pub intake : r.reception.intake.parameters ≡ r.reception.finder.parameters
+  pub stream : r.reception.stream.rows.parameters ≡ r.reception.finder.parameters
   pub within : length r.reception.finder.counts ≤ finder_room r.reception.finder.parameters
   pub period : r.reception.period ≡ period_slots r.reception.finder.parameters
   pub new : r.fresh ≡ true → IsNew r

@@ -3,6 +3,7 @@ use Rattle.std.specs.Prelude.{⊤, ℕ, ◌≡◌, ◌≤◌, ◌+◌, ◌*◌, 
 use Rattle.std.specs.declared.option.Option.{Option}
 use Rattle.std.specs.Io.KnownBytes.{append_known, prepend_known}
 use Rattle.hpe_base.specs.Parameters.{Parameters, positions, symbol_slots, interleaver_depth, codeword_symbols}
+use Rattle.hpe_base.specs.Counts.{counts_of}
 use Rattle.hpe_base.specs.Decoded.{Tally, verdicts_of, decoded, report_of, word_lines}
 use Rattle.hpe_io.specs.Devices.{ReadsAll, GrowsByFront}
 use Rattle.hpe_find.specs.Finding.{finder_room}
@@ -41,28 +42,28 @@ fault_of untaken.Frames = Write
 fault_of untaken.Report = Report
 fault_of untaken.TooLong = TooLong
 
--- these counts were read to the input's end, at most the limit, and the sinks grew by their frames and their report
-pub record Receives (p : Parameters) (limit : ℕ) (left left' frames frames' report report' : Option (List ℕ)) (counts : List ℕ) : Type 0 where
-  pub reads : ReadsAll left left' counts
-  pub within : length counts ≤ limit
-  pub decodes : frames' ≡ append_known frames (decoded p counts)
-  pub reports : report' ≡ append_known report (report_of p counts)
+-- these octets were read to the input's end, at most the limit, and the sinks grew by their frames and their report
+pub record Receives (p : Parameters) (limit : ℕ) (left left' frames frames' report report' : Option (List ℕ)) (octets : List ℕ) : Type 0 where
+  pub reads : ReadsAll left left' octets
+  pub within : length octets ≤ limit
+  pub decodes : frames' ≡ append_known frames (decoded p octets)
+  pub reports : report' ≡ append_known report (report_of p octets)
 
--- counts were taken, at most one more than the limit, and the sinks grew by some front of the frames and of the report of
+-- octets were taken, at most one more than the limit, and the sinks grew by some front of the frames and of the report of
 -- the first of them, as many as the limit
 pub record ReceivesPart (p : Parameters) (limit : ℕ) (left left' frames frames' report report' : Option (List ℕ)) : Type 0 where
-  pub counts : List ℕ
-  pub lost : left ≡ prepend_known counts left'
-  pub most : length counts ≤ limit + 1
-  pub decodes : GrowsByFront frames frames' (decoded p (take limit counts))
-  pub reports : GrowsByFront report report' (report_of p (take limit counts))
+  pub octets : List ℕ
+  pub lost : left ≡ prepend_known octets left'
+  pub most : length octets ≤ limit + 1
+  pub decodes : GrowsByFront frames frames' (decoded p (take limit octets))
+  pub reports : GrowsByFront report report' (report_of p (take limit octets))
 
--- counts were taken, and the report grew by the lines of some first words of the first of them, as many as the limit
+-- octets were taken, and the report grew by the lines of some first words of the first of them, as many as the limit
 pub record ReportsWords (p : Parameters) (limit : ℕ) (left left' report report' : Option (List ℕ)) : Type 0 where
-  pub counts : List ℕ
-  pub lost : left ≡ prepend_known counts left'
+  pub octets : List ℕ
+  pub lost : left ≡ prepend_known octets left'
   pub words : ℕ
-  pub reports : report' ≡ append_known report (word_lines 0 (take words (verdicts_of p (take limit counts))))
+  pub reports : report' ≡ append_known report (word_lines 0 (take words (verdicts_of p (counts_of p (take limit octets)))))
 
 -- what holds of the number of counts where no marker was found
 abbrev pub IfNoMarker : Result counter.Tally RecvFault → (ℕ → Type 0) → Type 0

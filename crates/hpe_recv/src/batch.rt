@@ -1,15 +1,13 @@
 //! The words that are decoded together: they are loaded until the crew is full or the stream ends, and their verdicts are put
 //! in the order in which they came.
-ghost use Rattle.std.specs.Prelude.{◌≡◌, ◌≤◌, ◌<◌, ◌+◌, ◌*◌, ◌^◌, ◌++◌, ◌∷◌, [], ℕ, All, length, take, IfOk, OnOk, OnErr, IsErrOf, None, true, false};
-ghost use Rattle.std.specs.Io.KnownBytes.{append_known};
+ghost use Rattle.std.specs.Prelude.{◌≡◌, ◌≤◌, ◌<◌, ◌+◌, ◌*◌, ◌^◌, ◌++◌, ◌∷◌, [], All, length, take, IfOk, OnOk, OnErr, IsErrOf, None, true, false};
 ghost use Rattle.hpe_base.specs.Parameters.{clamp, positions, codeword_symbols, block_bits};
-ghost use Rattle.hpe_base.specs.Decoded.{word_lines};
 ghost use Rattle.hpe_base.specs.Rounds.{verdict_of};
 ghost use Rattle.hpe_io.specs.Standing.{SinkStands};
 ghost use Rattle.hpe_crew.specs.Answering.{verdict_with};
 ghost use Rattle.hpe_crew.specs.Crewing.{loaded_verdict};
 ghost use Rattle.hpe_recv.specs.Causes.{HasCutCause};
-ghost use Rattle.hpe_recv.specs.Delivering.{HasDelivered, PutsPart};
+ghost use Rattle.hpe_recv.specs.Delivering.{ByAnswer, HasDelivered, PutsLines, PutsPart};
 ghost use Rattle.hpe_recv.specs.Batching.{HasBatched, loaded_verdicts, blocks_due};
 
 use crate::outlet::{Cut, Outlet};
@@ -105,8 +103,7 @@ impl Batch {
         ensures lines { (all : _) (whole : _) (start : _) (begin : _)
             → HasBatched self.old all whole start (O.written frames.old) begin (R.written report.old)
             → self.old.late ≡ false
-            → IsErrOf result Cut.Frames → (n : ℕ) × (R.written report.new ≡ append_known begin (word_lines 0
-            (take n all))) }
+            → IsErrOf result Cut.Frames → PutsLines all begin (R.written report.new) }
         ensures cause { HasCutCause (O.faults frames.old) (O.faults frames.new) (R.faults report.old)
             (R.faults report.new) result }
         ensures frames_stand { SinkStands O.faults O.mark frames.old frames.new }
@@ -154,8 +151,7 @@ impl Batch {
             (R.written report.new)) }
         ensures lines { (all : _) (whole : _) (start : _) (begin : _)
             → HasBatched self.old all whole start (O.written frames.old) begin (R.written report.old)
-            → IsErrOf result Cut.Frames → (n : ℕ) × (R.written report.new ≡ append_known begin (word_lines 0
-            (take n whole))) }
+            → IsErrOf result Cut.Frames → PutsLines whole begin (R.written report.new) }
         ensures cause { HasCutCause (O.faults frames.old) (O.faults frames.new) (R.faults report.old)
             (R.faults report.new) result }
         ensures frames_stand { SinkStands O.faults O.mark frames.old frames.new }
@@ -191,8 +187,7 @@ impl Batch {
             (R.written report.new)) }
         ensures lines { (all : _) (whole : _) (start : _) (begin : _)
             → HasBatched self.old all whole start (O.written frames.old) begin (R.written report.old)
-            → IsErrOf result Cut.Frames → (n : ℕ) × (R.written report.new ≡ append_known begin (word_lines 0
-            (take n whole))) }
+            → IsErrOf result Cut.Frames → PutsLines whole begin (R.written report.new) }
         ensures cause { HasCutCause (O.faults frames.old) (O.faults frames.new) (R.faults report.old)
             (R.faults report.new) result }
         ensures frames_stand { SinkStands O.faults O.mark frames.old frames.new }
@@ -268,18 +263,12 @@ fn put_first<O: Sink, R: Sink>(
     ensures size { length block.new ≡ length block.old }
     ensures unspent { OnOk result (outlet.new.scan.spent ≡ false) }
     ensures blocks { outlet.new.scan.blocks ≤ outlet.old.scan.blocks + count }
-    ensures ok { (verdicts : _) (start : _) (begin : _) → HasDelivered outlet.old verdicts start
+    ensures put { (verdicts : _) (start : _) (begin : _) → HasDelivered outlet.old verdicts start
         (O.written frames.old) begin (R.written report.old)
-        → OnOk result (HasDelivered outlet.new (verdicts ++ take count (loaded_verdicts crew.now)) start
-        (O.written frames.new) begin (R.written report.new)) }
-    ensures cut { (verdicts : _) (start : _) (begin : _) → HasDelivered outlet.old verdicts start
-        (O.written frames.old) begin (R.written report.old)
-        → OnErr result (PutsPart outlet.old.scan.parameters (verdicts
-        ++ take count (loaded_verdicts crew.now)) start (O.written frames.new) begin (R.written report.new)) }
-    ensures lines { (verdicts : _) (start : _) (begin : _) → HasDelivered outlet.old verdicts start
-        (O.written frames.old) begin (R.written report.old)
-        → IsErrOf result Cut.Frames → (n : ℕ) × (R.written report.new ≡ append_known begin (word_lines 0
-        (take n (verdicts ++ take count (loaded_verdicts crew.now))))) }
+        → let due = verdicts ++ take count (loaded_verdicts crew.now) in ByAnswer result
+        (HasDelivered outlet.new due start (O.written frames.new) begin (R.written report.new))
+        (PutsPart outlet.old.scan.parameters due start (O.written frames.new) begin (R.written report.new))
+        (PutsLines due begin (R.written report.new)) }
     ensures cause { HasCutCause (O.faults frames.old) (O.faults frames.new) (R.faults report.old)
         (R.faults report.new) result }
     ensures frames_stand { SinkStands O.faults O.mark frames.old frames.new }

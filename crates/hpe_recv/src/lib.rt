@@ -3,7 +3,7 @@
 #![tactic(auto)]
 
 mod batch;
-mod course;
+mod counts;
 mod intake;
 mod lines;
 mod outlet;
@@ -12,7 +12,6 @@ mod reception;
 mod stream;
 #[cfg(test)]
 mod tests;
-mod words;
 
 pub use hpe_crew::{Gate, OpenGate};
 pub use receiver::{Receiver, RecvFault, Tally, held_limit};

@@ -1,5 +1,7 @@
 //! The receiver of a link.
 ghost use Rattle.std.specs.Prelude.{◌≡◌, ◌≢◌, ◌≤◌, ◌+◌, ◌*◌, ◌^◌, ℕ, List, length, IfOk, IsErrOf, true, false};
+ghost use Rattle.hpe_base.specs.Parameters.{IsValid};
+ghost use Rattle.hpe_base.specs.Counts.{counts_of};
 ghost use Rattle.hpe_base.specs.Decoded.{tally_of};
 ghost use Rattle.hpe_base.specs.MarkerSearch.{offset_of, Dark};
 ghost use Rattle.hpe_io.specs.Devices.{Grows, TakesAtMost, TakesCount};
@@ -7,13 +9,14 @@ ghost use Rattle.hpe_io.specs.Standing.{SinkStands, SourceStands};
 ghost use Rattle.hpe_recv.specs.Causes.{HasFaultCause};
 ghost use Rattle.hpe_recv.specs.Receiving.{held_limit, tallied, fault_of, Receives, ReceivesPart, ReportsWords, IfNoMarker, IfCutOff, IfReportStands};
 
+use crate::counts::CountIntake;
 use crate::intake::{Untaken, search};
 use crate::reception::{Reception, receive_dark, receive_short};
 use crate::stream::Stream;
 use hpe_base::{NoMemory, Profile, geometry};
 use hpe_crew::Gate;
 use hpe_find::{Finder, Found};
-use hpe_io::{Intake, Sink, Source};
+use hpe_io::{Sink, Source};
 use std::alloc::Global;
 use std::marker::Model;
 use std::thread::Threads;
@@ -32,7 +35,7 @@ pub struct Tally {
     pub frames: u64,
     /// The slots before the first codeword marker.
     pub lead: u64,
-    /// The slots after the last whole period.
+    /// The slots after the last whole period, and one more where the input ends within a count.
     pub tail: u64,
 }
 
@@ -84,7 +87,8 @@ pub fn held_limit(p: &Profile, workers: u32) -> u64
     (searched + measures.symbol_slots + waiting) as u64
 }
 
-/// The receiver of a link: it reads the counts of slots, one octet for each slot, and writes transfer frames and a report.
+/// The receiver of a link: it reads the counts of slots, each of one octet or of two as the profile says, and writes
+/// transfer frames and a report.
 ///
 /// It holds the counts that the marker search needs, what the channel interleaver delays, one word, one block and one
 /// frame, whatever the length of the input.
@@ -111,14 +115,13 @@ impl Receiver {
     pub fn new(alloc: Global, p: &Profile, workers: u32) -> Result<Receiver, NoMemory>
         requires workers { (1 ≤ workers) × (workers ≤ 16) }
         ensures profile { IfOk result (λ r. r.parameters ≡ p.now) }
+        ensures valid { IfOk result (λ r. IsValid r.parameters) }
         ensures workers { IfOk result (λ r. r.workers ≡ workers) }
         ensures fresh { IfOk result (λ r. r.fresh ≡ true) }
     {
         let finder = Finder::new(alloc, p)?;
         let stream = Stream::new(alloc, p, workers)?;
-        let Ok(intake) = Intake::new(alloc) else {
-            return Err(NoMemory);
-        };
+        let intake = CountIntake::new(alloc, p)?;
         Ok(Receiver {
             reception: Reception {
                 finder,
@@ -147,8 +150,9 @@ impl Receiver {
         self.reception.finder.counts().len() as u64 + self.reception.stream.held()
     }
 
-    /// Receives a stream of up to `limit` counts: it puts the transfer frames that are delivered to `frames`, and to
-    /// `report` a line for each word and one for the tally, which it answers.
+    /// Receives a stream of up to `limit` octets: it puts the transfer frames that are delivered to `frames`, and to
+    /// `report` a line for each word and one for the tally, which it answers. An octet of a count that isn't whole at the
+    /// end of the input belongs to the tail.
     ///
     /// The frames of a word are put before its line, and each line in one piece.
     pub fn receive<T: Threads + Sync, G: Gate, I: Source, O: Sink, R: Sink>(
@@ -161,33 +165,31 @@ impl Receiver {
         report: &mut R,
     ) -> Result<Tally, RecvFault>
         requires fresh { self.old.fresh ≡ true }
-        requires one { self.old.parameters.count_octets ≡ 1 }
         requires limit { (1 ≤ limit) × (limit ≤ 2 ^ 40) }
-        ensures profile { self.new.parameters ≡ self.old.parameters }
-        ensures spent { self.new.fresh ≡ false }
-        ensures ok { IfOk result (λ tally. (counts : List ℕ)
+        ensures spent { (self.new.parameters ≡ self.old.parameters) × (self.new.fresh ≡ false) }
+        ensures ok { IfOk result (λ tally. (octets : List ℕ)
             × Receives self.old.parameters limit (I.left input.old) (I.left input.new)
-            (O.written frames.old) (O.written frames.new) (R.written report.old) (R.written report.new) counts
-            × (tallied tally ≡ tally_of self.old.parameters counts)
-            × (offset_of self.old.parameters counts ≢ Dark)) }
-        ensures no_marker { IfNoMarker result (λ n. (counts : List ℕ)
+            (O.written frames.old) (O.written frames.new) (R.written report.old) (R.written report.new) octets
+            × (tallied tally ≡ tally_of self.old.parameters octets)
+            × (offset_of self.old.parameters (counts_of self.old.parameters octets) ≢ Dark)) }
+        ensures no_marker { IfNoMarker result (λ n. (octets : List ℕ)
             × Receives self.old.parameters limit (I.left input.old) (I.left input.new)
-            (O.written frames.old) (O.written frames.new) (R.written report.old) (R.written report.new) counts
-            × (n ≡ length counts)
-            × (offset_of self.old.parameters counts ≡ Dark)
+            (O.written frames.old) (O.written frames.new) (R.written report.old) (R.written report.new) octets
+            × (n ≡ length (counts_of self.old.parameters octets))
+            × (offset_of self.old.parameters (counts_of self.old.parameters octets) ≡ Dark)
             × (frames.new ≡ frames.old)) }
         ensures cut { IfCutOff result (ReceivesPart self.old.parameters limit (I.left input.old) (I.left input.new)
             (O.written frames.old) (O.written frames.new) (R.written report.old) (R.written report.new)) }
         ensures lines { IfReportStands result (ReportsWords self.old.parameters limit (I.left input.old)
             (I.left input.new)
             (R.written report.old) (R.written report.new)) }
-        ensures long { IsErrOf result RecvFault.TooLong → TakesCount (I.left input.old) (I.left input.new) (limit + 1) }
         ensures cause { HasFaultCause (I.faults input.old) (I.faults input.new) (O.faults frames.old)
             (O.faults frames.new)
             (R.faults report.old) (R.faults report.new) result }
+        ensures long { IsErrOf result RecvFault.TooLong → TakesCount (I.left input.old) (I.left input.new) (limit + 1) }
         ensures taken { TakesAtMost (I.left input.old) (I.left input.new) (limit + 1) }
-        ensures frames_grow { Grows (O.written frames.old) (O.written frames.new) }
-        ensures report_grows { Grows (R.written report.old) (R.written report.new) }
+        ensures grow { Grows (O.written frames.old) (O.written frames.new)
+            × Grows (R.written report.old) (R.written report.new) }
         ensures input_stands { SourceStands I.faults I.mark I.build input.old input.new }
         ensures frames_stand { SinkStands O.faults O.mark frames.old frames.new }
         ensures report_stands { SinkStands R.faults R.mark report.old report.new }
@@ -218,7 +220,7 @@ impl Receiver {
             }
             // the search needs no more, since it is settled or the input has ended
             Found::Short | Found::Need => {
-                let tally = receive_short(&self.reception.finder, report)?;
+                let tally = receive_short(&self.reception.finder, &self.reception.intake, report)?;
                 Ok(tally)
             }
         }

@@ -1,44 +1,36 @@
 //! The counts from the first marker on, in pieces of any length.
-ghost use Rattle.std.specs.Prelude.{◌≡◌, ◌≤◌, ◌<◌, ◌+◌, ◌*◌, ◌/◌, ◌^◌, ◌++◌, [], ℕ, length, take, IfOk, OnOk, OnErr, IsErrOf, false};
-ghost use Rattle.std.specs.Io.KnownBytes.{append_known};
+ghost use Rattle.std.specs.Prelude.{◌≡◌, ◌≤◌, ◌<◌, ◌+◌, ◌*◌, ◌/◌, ◌^◌, ◌++◌, [], length, take, IfOk, OnOk, OnErr, IsErrOf, false};
 ghost use Rattle.hpe_base.specs.Parameters.{positions, symbol_slots, interleaver_depth, codeword_symbols};
-ghost use Rattle.hpe_base.specs.Decoded.{word_lines};
 ghost use Rattle.hpe_io.specs.Standing.{SinkStands};
 ghost use Rattle.hpe_weave.specs.Unweaving.{waiting_in};
 ghost use Rattle.hpe_recv.specs.Batching.{blocks_due};
 ghost use Rattle.hpe_recv.specs.Causes.{HasCutCause};
-ghost use Rattle.hpe_recv.specs.Delivering.{HasDelivered, PutsPart};
-ghost use Rattle.hpe_recv.specs.Rows.{settled};
-ghost use Rattle.hpe_recv.specs.Streaming.{HasTaken};
+ghost use Rattle.hpe_recv.specs.Delivering.{HasDelivered, PutsLines, PutsPart};
+ghost use Rattle.hpe_recv.specs.Settled.{settled, verdicts_on};
+ghost use Rattle.hpe_recv.specs.Streaming.{HasCollected, HasSettled, HasTaken};
+ghost use Rattle.hpe_rows.specs.Rows.{placed_rows};
 
-use crate::course::Course;
+use crate::batch::Batch;
 use crate::outlet::{Cut, Outlet};
 use hpe_base::{NoMemory, Profile};
 use hpe_crew::Gate;
 use hpe_io::Sink;
-use hpe_slots::widen;
+use hpe_rows::{Rows, Taken};
 use std::alloc::Global;
 use std::marker::Model;
 use std::thread::Threads;
 
-/// The octets that are taken from the input at once, and the counts that are made of octets at once. Few enough that the
-/// room for the counts, which is made anew for each piece, costs little where an input comes in small pieces.
-pub const PIECE: usize = 8_192;
-
-/// Room for the counts of a piece.
-pub fn blank_counts() -> [u16; PIECE]
-    ensures { length result ≡ PIECE }
-{
-    [0; PIECE]
-}
-
-/// A stream of counts that begins with a codeword marker. Whole symbols are worked off where they stand; of a symbol that
-/// isn't whole the counts are kept.
+/// A stream of counts that begins with a codeword marker. A row of sums is put straight to its place in its word.
+///
+/// A word that is whole goes to the batch at once, and is settled at the end of its period, since the rows of a period
+/// that the stream doesn't end play no part. No more than one word is completed in a period.
 #[derive(Drop)]
 pub struct Stream {
-    course: Course,
-    begun: Vec<u16>,
-    size: usize,
+    rows: Rows,
+    /// The sums of a word, of which the first `filled` rows have come.
+    sums: Vec<u16>,
+    filled: usize,
+    batch: Batch,
 }
 
 impl Model for Stream {
@@ -57,25 +49,105 @@ impl Stream {
     /// A stream of which nothing has come. It takes all its memory here.
     pub fn new(alloc: Global, p: &Profile, workers: u32) -> Result<Stream, NoMemory>
         requires workers { (1 ≤ workers) × (workers ≤ 16) }
-        ensures workers { IfOk result (λ s. s.course.batch.crew.workers ≡ workers) }
-        ensures profile { IfOk result (λ s. s.course.parameters ≡ p.now) }
-        ensures blocks { IfOk result (λ s. blocks_due s.course.batch ≡ 0) }
+        ensures workers { IfOk result (λ s. s.batch.crew.workers ≡ workers) }
+        ensures profile { IfOk result (λ s. s.rows.parameters ≡ p.now) }
+        ensures blocks { IfOk result (λ s. blocks_due s.batch ≡ 0) }
         ensures stands { IfOk result (λ s. (frames : _) (report : _) → HasTaken s [] frames frames report report) }
-        ensures unspent { IfOk result (λ s. s.course.batch.outlet.scan.spent ≡ false) }
+        ensures unspent { IfOk result (λ s. s.batch.outlet.scan.spent ≡ false) }
     {
-        let course = Course::new(alloc, p, workers)?;
-        let size = p.symbol_slots();
-        let Ok(begun) = Vec::with_capacity(alloc, size) else {
+        let rows = Rows::new(alloc, p)?;
+        let batch = Batch::new(alloc, p, workers)?;
+        let Ok(sums) = vec![in alloc; 0; p.order().symbols() * p.order().slots()] else {
             return Err(NoMemory);
         };
         Ok(Stream {
-            course,
-            begun,
-            size,
+            rows,
+            sums,
+            filled: 0,
+            batch,
         })
     }
 
-    /// Takes counts up to the end of a symbol, or as many as there are, and answers their number.
+    /// Takes counts up to the end of a symbol, or as many as there are, and hands on the word that is whole with them.
+    fn collect<T: Threads + Sync, G: Gate, O: Sink, R: Sink>(
+        &mut self,
+        rt: &T,
+        gate: &G,
+        counts: &[u16],
+        frames: &mut O,
+        report: &mut R,
+    ) -> Result<Taken, Cut>
+        requires some { 0 < length counts.now }
+        requires unspent { self.old.batch.outlet.scan.spent ≡ false }
+        requires few { blocks_due self.old.batch < 2 ^ 40 }
+        ensures some { IfOk result (λ taken. 0 < taken.counts) }
+        ensures within { IfOk result (λ taken. taken.counts ≤ length counts.now) }
+        ensures profile { self.new.rows.parameters ≡ self.old.rows.parameters }
+        ensures unspent { OnOk result (self.new.batch.outlet.scan.spent ≡ false) }
+        ensures blocks { blocks_due self.new.batch ≤ blocks_due self.old.batch + 1 }
+        ensures ok { (seen : _) (start : _) (begin : _) → HasTaken self.old seen start (O.written frames.old)
+            begin (R.written report.old)
+            → IfOk result (λ taken. HasCollected self.new seen (seen ++ take taken.counts counts.now) taken.ended
+            start (O.written frames.new) begin (R.written report.new)) }
+        ensures cut { (seen : _) (start : _) (begin : _) → HasTaken self.old seen start
+            (O.written frames.old) begin (R.written report.old)
+            → OnErr result (PutsPart self.old.rows.parameters (settled self.old.rows.parameters seen) start
+            (O.written frames.new) begin (R.written report.new)) }
+        ensures lines { (seen : _) (start : _) (begin : _) → HasTaken self.old seen start
+            (O.written frames.old) begin (R.written report.old)
+            → IsErrOf result Cut.Frames → PutsLines (settled self.old.rows.parameters seen) begin
+            (R.written report.new) }
+        ensures cause { HasCutCause (O.faults frames.old) (O.faults frames.new) (R.faults report.old)
+            (R.faults report.new) result }
+        ensures frames_stand { SinkStands O.faults O.mark frames.old frames.new }
+        ensures report_stands { SinkStands R.faults R.mark report.old report.new }
+    {
+        let order = self.rows.profile().order();
+        let positions = order.slots();
+        let start = self.filled * positions;
+        let taken = self
+            .rows
+            .take(counts, &mut self.sums[start..start + positions]);
+        if !taken.row {
+            return Ok(taken);
+        }
+        self.filled += 1;
+        if self.filled < order.symbols() {
+            return Ok(taken);
+        }
+        self.filled = 0;
+        self.batch.word(rt, gate, &self.sums, frames, report)?;
+        Ok(taken)
+    }
+
+    /// Settles the word that was completed in the period that ends.
+    fn settle<O: Sink, R: Sink>(&mut self, frames: &mut O, report: &mut R) -> Result<(), Cut>
+        requires unspent { self.old.batch.outlet.scan.spent ≡ false }
+        requires few { blocks_due self.old.batch ≤ 2 ^ 40 }
+        ensures profile { self.new.rows.parameters ≡ self.old.rows.parameters }
+        ensures unspent { OnOk result (self.new.batch.outlet.scan.spent ≡ false) }
+        ensures blocks { blocks_due self.new.batch ≤ blocks_due self.old.batch }
+        ensures ok { (seen : _) (verdicts : _) (start : _) (begin : _)
+            → HasSettled self.old seen verdicts start (O.written frames.old) begin (R.written report.old)
+            → OnOk result (HasSettled self.new seen (verdicts_on self.old.rows.parameters
+            (placed_rows self.old.rows.parameters seen)) start (O.written frames.new) begin (R.written report.new)) }
+        ensures cut { (seen : _) (verdicts : _) (start : _) (begin : _)
+            → HasSettled self.old seen verdicts start (O.written frames.old) begin (R.written report.old)
+            → OnErr result (PutsPart self.old.rows.parameters (verdicts_on self.old.rows.parameters
+            (placed_rows self.old.rows.parameters seen)) start (O.written frames.new) begin (R.written report.new)) }
+        ensures lines { (seen : _) (verdicts : _) (start : _) (begin : _)
+            → HasSettled self.old seen verdicts start (O.written frames.old) begin (R.written report.old)
+            → IsErrOf result Cut.Frames → PutsLines verdicts begin (R.written report.new) }
+        ensures cause { HasCutCause (O.faults frames.old) (O.faults frames.new) (R.faults report.old)
+            (R.faults report.new) result }
+        ensures frames_stand { SinkStands O.faults O.mark frames.old frames.new }
+        ensures report_stands { SinkStands R.faults R.mark report.old report.new }
+    {
+        self.batch.settle(frames, report)
+    }
+
+    /// Takes counts up to the end of a symbol, or as many as there are, puts what they settle, and answers their
+    /// number.
     fn step<T: Threads + Sync, G: Gate, O: Sink, R: Sink>(
         &mut self,
         rt: &T,
@@ -85,53 +157,36 @@ impl Stream {
         report: &mut R,
     ) -> Result<usize, Cut>
         requires some { 0 < length counts.now }
-        requires unspent { self.old.course.batch.outlet.scan.spent ≡ false }
-        requires few { blocks_due self.old.course.batch < 2 ^ 40 }
+        requires unspent { self.old.batch.outlet.scan.spent ≡ false }
+        requires few { blocks_due self.old.batch < 2 ^ 40 }
         ensures some { IfOk result (λ n. 0 < n) }
         ensures within { IfOk result (λ n. n ≤ length counts.now) }
-        ensures profile { self.new.course.parameters ≡ self.old.course.parameters }
-        ensures unspent { OnOk result (self.new.course.batch.outlet.scan.spent ≡ false) }
-        ensures blocks { blocks_due self.new.course.batch ≤ blocks_due self.old.course.batch + 1 }
+        ensures profile { self.new.rows.parameters ≡ self.old.rows.parameters }
+        ensures unspent { OnOk result (self.new.batch.outlet.scan.spent ≡ false) }
+        ensures blocks { blocks_due self.new.batch ≤ blocks_due self.old.batch + 1 }
         ensures ok { (seen : _) (start : _) (begin : _) → HasTaken self.old seen start (O.written frames.old)
             begin (R.written report.old)
             → IfOk result (λ n. HasTaken self.new (seen ++ take n counts.now) start (O.written frames.new)
             begin (R.written report.new)) }
         ensures cut { (seen : _) (start : _) (begin : _) → HasTaken self.old seen start
             (O.written frames.old) begin (R.written report.old)
-            → OnErr result (PutsPart self.old.course.parameters (settled self.old.course.parameters (seen
+            → OnErr result (PutsPart self.old.rows.parameters (settled self.old.rows.parameters (seen
             ++ counts.now)) start (O.written frames.new) begin (R.written report.new)) }
         ensures lines { (seen : _) (start : _) (begin : _) → HasTaken self.old seen start
             (O.written frames.old) begin (R.written report.old)
-            → IsErrOf result Cut.Frames → (n : ℕ) × (R.written report.new ≡ append_known begin (word_lines 0
-            (take n (settled self.old.course.parameters (seen ++ counts.now))))) }
+            → IsErrOf result Cut.Frames → PutsLines (settled self.old.rows.parameters (seen ++ counts.now)) begin
+            (R.written report.new) }
         ensures cause { HasCutCause (O.faults frames.old) (O.faults frames.new) (R.faults report.old)
             (R.faults report.new) result }
         ensures frames_stand { SinkStands O.faults O.mark frames.old frames.new }
         ensures report_stands { SinkStands R.faults R.mark report.old report.new }
     {
-        if self.begun.is_empty() && counts.len() >= self.size {
-            match self
-                .course
-                .symbol(rt, gate, &counts[..self.size], frames, report)
-            {
-                Ok(()) => return Ok(self.size),
-                Err(cut) => return Err(cut),
-            }
+        let taken = self.collect(rt, gate, counts, frames, report)?;
+        if !taken.ended {
+            return Ok(taken.counts);
         }
-        let count = counts.len().min(self.size - self.begun.len());
-        match self.begun.extend_from_slice(&counts[..count]) {
-            Ok(()) => {}
-            Err(_) => unreachable!(),
-        }
-        if self.begun.len() == self.size {
-            let done = self.course.symbol(rt, gate, &self.begun, frames, report);
-            self.begun.clear();
-            match done {
-                Ok(()) => {}
-                Err(cut) => return Err(cut),
-            }
-        }
-        Ok(count)
+        self.settle(frames, report)?;
+        Ok(taken.counts)
     }
 
     /// Takes the next counts, and puts what they settle.
@@ -143,23 +198,23 @@ impl Stream {
         frames: &mut O,
         report: &mut R,
     ) -> Result<(), Cut>
-        requires unspent { self.old.course.batch.outlet.scan.spent ≡ false }
-        requires few { blocks_due self.old.course.batch + length counts.now ≤ 2 ^ 40 }
-        ensures profile { self.new.course.parameters ≡ self.old.course.parameters }
-        ensures unspent { OnOk result (self.new.course.batch.outlet.scan.spent ≡ false) }
-        ensures blocks { blocks_due self.new.course.batch ≤ blocks_due self.old.course.batch + length counts.now }
+        requires unspent { self.old.batch.outlet.scan.spent ≡ false }
+        requires few { blocks_due self.old.batch + length counts.now ≤ 2 ^ 40 }
+        ensures profile { self.new.rows.parameters ≡ self.old.rows.parameters }
+        ensures unspent { OnOk result (self.new.batch.outlet.scan.spent ≡ false) }
+        ensures blocks { blocks_due self.new.batch ≤ blocks_due self.old.batch + length counts.now }
         ensures ok { (seen : _) (start : _) (begin : _) → HasTaken self.old seen start (O.written frames.old)
             begin (R.written report.old)
             → OnOk result (HasTaken self.new (seen ++ counts.now) start (O.written frames.new) begin
             (R.written report.new)) }
         ensures cut { (seen : _) (start : _) (begin : _) → HasTaken self.old seen start
             (O.written frames.old) begin (R.written report.old)
-            → OnErr result (PutsPart self.old.course.parameters (settled self.old.course.parameters (seen
+            → OnErr result (PutsPart self.old.rows.parameters (settled self.old.rows.parameters (seen
             ++ counts.now)) start (O.written frames.new) begin (R.written report.new)) }
         ensures lines { (seen : _) (start : _) (begin : _) → HasTaken self.old seen start
             (O.written frames.old) begin (R.written report.old)
-            → IsErrOf result Cut.Frames → (n : ℕ) × (R.written report.new ≡ append_known begin (word_lines 0
-            (take n (settled self.old.course.parameters (seen ++ counts.now))))) }
+            → IsErrOf result Cut.Frames → PutsLines (settled self.old.rows.parameters (seen ++ counts.now)) begin
+            (R.written report.new) }
         ensures cause { HasCutCause (O.faults frames.old) (O.faults frames.new) (R.faults report.old)
             (R.faults report.new) result }
         ensures frames_stand { SinkStands O.faults O.mark frames.old frames.new }
@@ -167,50 +222,9 @@ impl Stream {
     {
         let mut place = 0;
         while place < counts.len() {
-            match self.step(rt, gate, &counts[place..], frames, report) {
-                Ok(count) => place += count,
-                Err(cut) => return Err(cut),
-            }
+            place += self.step(rt, gate, &counts[place..], frames, report)?;
         }
         Ok(())
-    }
-
-    /// Takes the next octets, each of which is a count, and puts what they settle.
-    pub fn take<T: Threads + Sync, G: Gate, O: Sink, R: Sink>(
-        &mut self,
-        rt: &T,
-        gate: &G,
-        octets: &[u8],
-        frames: &mut O,
-        report: &mut R,
-    ) -> Result<(), Cut>
-        requires most { length octets.now ≤ PIECE }
-        requires unspent { self.old.course.batch.outlet.scan.spent ≡ false }
-        requires few { blocks_due self.old.course.batch + length octets.now ≤ 2 ^ 40 }
-        ensures profile { self.new.course.parameters ≡ self.old.course.parameters }
-        ensures unspent { OnOk result (self.new.course.batch.outlet.scan.spent ≡ false) }
-        ensures blocks { blocks_due self.new.course.batch ≤ blocks_due self.old.course.batch + length octets.now }
-        ensures ok { (seen : _) (start : _) (begin : _) → HasTaken self.old seen start (O.written frames.old)
-            begin (R.written report.old)
-            → OnOk result (HasTaken self.new (seen ++ octets.now) start (O.written frames.new) begin
-            (R.written report.new)) }
-        ensures cut { (seen : _) (start : _) (begin : _) → HasTaken self.old seen start
-            (O.written frames.old) begin (R.written report.old)
-            → OnErr result (PutsPart self.old.course.parameters (settled self.old.course.parameters (seen
-            ++ octets.now)) start (O.written frames.new) begin (R.written report.new)) }
-        ensures lines { (seen : _) (start : _) (begin : _) → HasTaken self.old seen start
-            (O.written frames.old) begin (R.written report.old)
-            → IsErrOf result Cut.Frames → (n : ℕ) × (R.written report.new ≡ append_known begin (word_lines 0
-            (take n (settled self.old.course.parameters (seen ++ octets.now))))) }
-        ensures cause { HasCutCause (O.faults frames.old) (O.faults frames.new) (R.faults report.old)
-            (R.faults report.new) result }
-        ensures frames_stand { SinkStands O.faults O.mark frames.old frames.new }
-        ensures report_stands { SinkStands R.faults R.mark report.old report.new }
-    {
-        let mut counts = blank_counts();
-        let counts = &mut counts[..octets.len()];
-        widen(octets, counts);
-        self.take_counts(rt, gate, counts, frames, report)
     }
 
     /// The stream has ended: the verdicts that are settled and wait are put.
@@ -221,47 +235,51 @@ impl Stream {
         frames: &mut O,
         report: &mut R,
     ) -> Result<(), Cut>
-        requires unspent { self.old.course.batch.outlet.scan.spent ≡ false }
-        requires few { blocks_due self.old.course.batch ≤ 2 ^ 40 }
-        ensures profile { self.new.course.parameters ≡ self.old.course.parameters }
-        ensures scan { self.new.course.batch.outlet.scan.parameters ≡ self.new.course.parameters }
+        requires unspent { self.old.batch.outlet.scan.spent ≡ false }
+        requires few { blocks_due self.old.batch ≤ 2 ^ 40 }
+        ensures profile { self.new.rows.parameters ≡ self.old.rows.parameters }
+        ensures scan { self.new.batch.outlet.scan.parameters ≡ self.new.rows.parameters }
         ensures ok { (seen : _) (start : _) (begin : _) → HasTaken self.old seen start (O.written frames.old)
             begin (R.written report.old)
-            → OnOk result (HasDelivered self.new.course.batch.outlet
-            (settled self.old.course.parameters seen) start (O.written frames.new) begin (R.written report.new)) }
+            → OnOk result (HasDelivered self.new.batch.outlet
+            (settled self.old.rows.parameters seen) start (O.written frames.new) begin (R.written report.new)) }
         ensures cut { (seen : _) (start : _) (begin : _) → HasTaken self.old seen start
             (O.written frames.old) begin (R.written report.old)
-            → OnErr result (PutsPart self.old.course.parameters (settled self.old.course.parameters seen)
+            → OnErr result (PutsPart self.old.rows.parameters (settled self.old.rows.parameters seen)
             start (O.written frames.new) begin (R.written report.new)) }
         ensures lines { (seen : _) (start : _) (begin : _) → HasTaken self.old seen start
             (O.written frames.old) begin (R.written report.old)
-            → IsErrOf result Cut.Frames → (n : ℕ) × (R.written report.new ≡ append_known begin (word_lines 0
-            (take n (settled self.old.course.parameters seen)))) }
+            → IsErrOf result Cut.Frames → PutsLines (settled self.old.rows.parameters seen) begin
+            (R.written report.new) }
         ensures cause { HasCutCause (O.faults frames.old) (O.faults frames.new) (R.faults report.old)
             (R.faults report.new) result }
         ensures frames_stand { SinkStands O.faults O.mark frames.old frames.new }
         ensures report_stands { SinkStands R.faults R.mark report.old report.new }
     {
-        self.course.finish(rt, gate, frames, report)
+        self.batch.finish(rt, gate, frames, report)
     }
 
     /// The last stage.
     pub fn outlet(&self) -> &Outlet
-        ensures { result.now ≡ self.now.course.batch.outlet }
+        ensures { result.now ≡ self.now.batch.outlet }
     {
-        self.course.outlet()
+        self.batch.outlet()
     }
 
-    /// The number of counts and sums that are kept.
+    /// The number of counts and sums that are kept: those of the symbol and of the word that are begun, those that wait
+    /// in the channel interleaver, and those of the words that are loaded.
     pub fn held(&self) -> u64
-        ensures value { result ≡ length self.now.begun + (waiting_in self.now.course.words.unweaver
-            + length self.now.course.words.sums
-            + length self.now.course.batch.crew.loads * (codeword_symbols self.now.course.parameters.order * positions self.now.course.parameters.order)) }
-        ensures most { result ≤ symbol_slots self.now.course.parameters
-            + (positions self.now.course.parameters.order * interleaver_depth self.now.course.parameters / 2
-            + self.now.course.batch.crew.workers * (codeword_symbols self.now.course.parameters.order * positions self.now.course.parameters.order)) }
+        ensures value { let order = self.now.rows.parameters.order in result ≡ length self.now.rows.begun
+            + (waiting_in self.now.rows.unweaver + self.now.filled * positions order
+            + length self.now.batch.crew.loads * (codeword_symbols order * positions order)) }
+        ensures most { let order = self.now.rows.parameters.order in result ≤ symbol_slots self.now.rows.parameters
+            + (positions order * interleaver_depth self.now.rows.parameters / 2
+            + self.now.batch.crew.workers * (codeword_symbols order * positions order)) }
         ensures few { result ≤ 2 ^ 29 }
     {
-        self.begun.len() as u64 + self.course.held()
+        let order = self.rows.profile().order();
+        let row = order.slots() as u64;
+        let word = order.symbols() as u64 * row;
+        self.rows.held() + self.filled as u64 * row + u64::from(self.batch.loaded()) * word
     }
 }

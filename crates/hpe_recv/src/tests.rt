@@ -1,4 +1,4 @@
-ghost use Rattle.std.specs.Prelude.{◌≡◌, ◌<◌, ◌≤◌, ◌^◌};
+ghost use Rattle.std.specs.Prelude.{◌<◌, ◌≤◌, ◌^◌};
 
 use crate::{OpenGate, Receiver, RecvFault, Tally, held_limit};
 use hpe_base::{Fields, Profile};
@@ -7,7 +7,7 @@ use std::alloc::Global;
 use std::test::Fail;
 use std::thread::Threads;
 
-/// More counts than any test has.
+/// More octets than any test has.
 const LIMIT: u64 = 2_000_000;
 
 /// A stream without a word.
@@ -20,7 +20,7 @@ const NO_WORD: Tally = Tally {
     tail: 0,
 };
 
-/// What was received of counts that come in pieces of this size.
+/// What was received of octets that come in pieces of one size.
 #[derive(Drop)]
 struct Received {
     ended: Result<Tally, RecvFault>,
@@ -29,22 +29,21 @@ struct Received {
     held: u64,
 }
 
-/// Receives counts.
+/// Receives the octets of counts.
 fn receive<T: Threads + Sync>(
     rt: &T,
     alloc: Global,
     p: &Profile,
     workers: u32,
-    counts: &[u8],
+    octets: &[u8],
     piece: u32,
     limit: u64,
 ) -> Result<Received, Fail>
-    requires one { p.now.count_octets ≡ 1 }
     requires workers { (1 ≤ workers) × (workers ≤ 16) }
     requires piece { 0 < piece }
     requires limit { (1 ≤ limit) × (limit ≤ 2 ^ 40) }
 {
-    let mut input = SureSource::new(alloc, counts, &[piece])?;
+    let mut input = SureSource::new(alloc, octets, &[piece])?;
     let mut receiver = Receiver::new(alloc, p, workers)?;
     let mut frames = MemSink::new(alloc, 1_000, &[])?;
     let mut report = MemSink::new(alloc, 1_000, &[])?;
@@ -58,12 +57,13 @@ fn receive<T: Threads + Sync>(
 }
 
 /// A profile of order 4, with a period of 37,880 slots for each time that a symbol is sent.
-fn order_4(repeat: i64, rounds: i64) -> Result<Profile, Fail> {
+fn order_4(repeat: i64, rounds: i64, count_octets: i64) -> Result<Profile, Fail> {
     let p = Profile::new(&Fields {
         order: 4,
         marker: &[0, 1, 3, 2, 2, 3, 1, 0, 0, 1, 3, 2, 2, 3, 1, 0],
         repeat,
         rounds,
+        count_octets,
         ..Fields::basic()
     })?;
     Ok(p)
@@ -71,8 +71,7 @@ fn order_4(repeat: i64, rounds: i64) -> Result<Profile, Fail> {
 
 #[test]
 fn all_counts_at_their_greatest(rt: HostRuntime) -> Result<(), Fail> {
-    let p = order_4(32, 16)?;
-    assert_eq!(rt; p.count_octets(), 1);
+    let p = order_4(32, 16, 1)?;
     let counts = vec![in rt.alloc(); 255u8; 1_212_160]?;
     let received = receive(&rt, rt.alloc(), &p, 1, &counts, 65_536, LIMIT)?;
     let tally = Tally {
@@ -131,8 +130,7 @@ fn received_once(rt: HostRuntime) -> Result<(), Fail> {
 
 #[test]
 fn any_cutting_and_number_of_workers(rt: HostRuntime) -> Result<(), Fail> {
-    let p = order_4(1, 1)?;
-    assert_eq!(rt; p.count_octets(), 1);
+    let p = order_4(1, 1, 1)?;
     let counts = vec![in rt.alloc(); 255u8; 3 * 37_880 + 7]?;
     let tally = Tally {
         words: 3,
@@ -154,22 +152,83 @@ fn any_cutting_and_number_of_workers(rt: HostRuntime) -> Result<(), Fail> {
     Ok(())
 }
 
+/// The octets of ten slots, a period and three slots, two octets a count, and one octet more.
+const TWO_OCTETS: usize = 2 * (10 + 37_880 + 3) + 1;
+
+/// The slots of the marker's pulses behind ten slots.
+const PULSES: [usize; 16] = [
+    10, 16, 23, 27, 32, 38, 41, 45, 50, 56, 63, 67, 72, 78, 81, 85,
+];
+
+#[test]
+fn two_octets_a_count(rt: HostRuntime) -> Result<(), Fail> {
+    let p = order_4(1, 1, 2)?;
+    // a count of 257 everywhere, and of 512 at the pulses of the marker
+    let mut octets = vec![in rt.alloc(); 1u8; TWO_OCTETS]?;
+    for slot in PULSES {
+        assert!(rt; slot < 100);
+        assert!(rt; octets.len() == TWO_OCTETS);
+        octets[2 * slot] = 2;
+        octets[2 * slot + 1] = 0;
+    }
+    assert!(rt; octets.len() == TWO_OCTETS);
+    let whole = "word 0 lost\nwords 1 kept 0 lost 1 frames 0 lead 10 tail 3\n";
+    let odd = "word 0 lost\nwords 1 kept 0 lost 1 frames 0 lead 10 tail 4\n";
+    for (piece, count, tail, report) in [
+        (1, TWO_OCTETS, 4, odd),
+        (7, TWO_OCTETS, 4, odd),
+        (7, TWO_OCTETS - 1, 3, whole),
+        (65_536, TWO_OCTETS - 1, 3, whole),
+    ] {
+        assert!(rt; 0 < piece);
+        assert!(rt; count <= octets.len());
+        let octets = &octets[..count];
+        let received = receive(&rt, rt.alloc(), &p, 2, octets, piece, LIMIT)?;
+        let tally = Tally {
+            words: 1,
+            lost: 1,
+            lead: 10,
+            tail,
+            ..NO_WORD
+        };
+        assert_eq!(rt; received.ended, Ok(tally));
+        assert!(rt; received.report.bytes() == report.as_bytes());
+        assert!(rt; received.held <= held_limit(&p, 2));
+    }
+    Ok(())
+}
+
+#[test]
+fn half_a_count(rt: HostRuntime) -> Result<(), Fail> {
+    let p = order_4(1, 1, 2)?;
+    let received = receive(&rt, rt.alloc(), &p, 1, &[9], 1, LIMIT)?;
+    let tally = Tally { tail: 1, ..NO_WORD };
+    assert_eq!(rt; received.ended, Ok(tally));
+    let report = "words 0 kept 0 lost 0 frames 0 lead 0 tail 1\n";
+    assert!(rt; received.report.bytes() == report.as_bytes());
+    assert_eq!(rt; received.held, 0);
+    Ok(())
+}
+
 #[test]
 fn takes_that_fail(rt: HostRuntime) -> Result<(), Fail> {
-    let p = order_4(1, 1)?;
-    assert_eq!(rt; p.count_octets(), 1);
-    // of pieces of 5,000 counts the search takes eight, and the first word is whole with them
-    for (count, failing, report) in [
-        (255, 1, ""),
-        (255, 7, ""),
-        (255, 8, "word 0 lost\n"),
-        (255, 10, "word 0 lost\n"),
-        (0, 1, ""),
-        (0, 10, ""),
+    // of pieces of 5,001 octets the search takes eight, or sixteen at two octets a count, and the first word is whole
+    // with them
+    for (count_octets, octet, failing, report) in [
+        (1, 255, 1, ""),
+        (1, 255, 7, ""),
+        (1, 255, 8, "word 0 lost\n"),
+        (1, 255, 10, "word 0 lost\n"),
+        (1, 0, 1, ""),
+        (1, 0, 10, ""),
+        (2, 255, 15, ""),
+        (2, 255, 16, "word 0 lost\n"),
+        (2, 0, 16, ""),
     ] {
-        let counts = vec![in rt.alloc(); count; 2 * 37_880]?;
+        let p = order_4(1, 1, count_octets)?;
+        let octets = vec![in rt.alloc(); octet; 4 * 37_880]?;
         let mut receiver = Receiver::new(rt.alloc(), &p, 1)?;
-        let mut input = MemSource::new(rt.alloc(), &counts, &[5_000], &[failing])?;
+        let mut input = MemSource::new(rt.alloc(), &octets, &[5_001], &[failing])?;
         let mut frames = MemSink::new(rt.alloc(), 0, &[])?;
         let mut told = MemSink::new(rt.alloc(), 100, &[])?;
         let ended = receiver.receive(&rt, &OpenGate, LIMIT, &mut input, &mut frames, &mut told);

@@ -2,12 +2,12 @@
 use Rattle.std.proofs.Common.{◌≡◌, ◌<◌, ◌+◌, ◌*◌, ◌-◌, ◌++◌, ℕ, List, [], length, Result, Ok, Err, OnOk, OnErr, ap, sym, ◌∙◌, refl, arith, length-append, append_assoc, append-nil, take, drop}
 use Rattle.std.specs.List.{flat_map}
 use Rattle.std.specs.declared.option.Option.{Option}
-use Rattle.std.proofs.lemmas.List.{replicate-append-replicate, take_at}
+use Rattle.std.proofs.lemmas.List.{take_at}
 use Rattle.hpe_base.specs.Bits.{zeros}
 use Rattle.hpe_base.specs.Parameters.{Parameters, IsValid, codeword_symbols, period_slots}
 use Rattle.hpe_base.specs.ChannelInterleaver.{interleaved_channel}
 use Rattle.hpe_base.specs.Slots.{octets_to, octet_at, symbol_octets}
-use Rattle.hpe_base.proofs.BitLists.{length-zeros}
+use Rattle.hpe_base.proofs.BitLists.{length-zeros, zeros-append}
 use Rattle.hpe_base.proofs.Channels.{length-interleaved_channel}
 use Rattle.hpe_base.proofs.Periods.{octets_to-more}
 use Rattle.hpe_base.proofs.Tabulated.{tabulate-none}
@@ -81,10 +81,6 @@ coded_word c c' n symbols start now same was = rw same (record { valid = was.val
 pub coded_same : (c : Coding) (n n' : ℕ) (symbols symbols' : List ℕ) (start now : Option (List ℕ)) → n ≡ n' → symbols ≡ symbols' → HasCoded c n symbols start now
     → HasCoded c n' symbols' start now
 coded_same c n n' symbols symbols' start now count list was = rw (← count, ← list) was
-
-zeros-append : (a b : ℕ) → zeros a ++ zeros b ≡ zeros (a + b)
-unfolding zeros
-zeros-append a b = replicate-append-replicate a b 0
 
 -- periods of symbols 0
 pub zeros-more : (symbols : List ℕ) (i s : ℕ) → (symbols ++ zeros (i * s)) ++ zeros s ≡ symbols ++ zeros ((i + 1) * s)

@@ -22,7 +22,7 @@ use Rattle.hpe_io.proofs.Taking.{come_all}
 use Rattle.hpe_send.proofs.Taken.{IsSending}
 use Rattle.hpe_io.proofs.Fronts.{IsFront, front-front, grows-front}
 use Rattle.hpe_send.proofs.Slotted.{slots_front}
-use Rattle.hpe_send.proofs.Worded.{words-split}
+use Rattle.hpe_base.proofs.SentFrames.{words-split}
 
 ceil-ge : (n k : ℕ) → n / k ≤ div_ceil n k
 ceil-ge n k = omega arith

@@ -3,7 +3,6 @@ pub mod Within
 pub mod WovenWord
 pub mod Slotted
 pub mod Worded
-pub mod Streamed
 pub mod Coded
 pub mod Stepped
 pub mod Chained

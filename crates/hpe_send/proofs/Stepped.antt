@@ -18,8 +18,16 @@ use Rattle.hpe_frame.specs.Feeding.{Feeding, marked}
 use Rattle.hpe_io.specs.Devices.{GrowsByFront}
 use Rattle.hpe_send.specs.Streaming.{word_count, words_of, bit_slots}
 use Rattle.hpe_io.proofs.Fronts.{IsFront, grows-front}
-use Rattle.hpe_send.proofs.Worded.{words-front, words-filled, bit_slots-front}
-use Rattle.hpe_send.proofs.Streamed.{frames-front, ceil-begun, ceil-whole}
+use Rattle.hpe_send.proofs.Worded.{bit_slots-front}
+use Rattle.hpe_base.proofs.SentFrames.{frames-front, words-front, words-filled}
+
+-- a last block that is begun counts as one
+ceil-begun : (n k : ℕ) → 0 < k → 0 < n % k → div_ceil n k ≡ n / k + 1
+ceil-begun n k h some = omega (arith, div-add-mod' n k, mod_below n k h)
+
+-- and a whole one too
+ceil-whole : (n k : ℕ) → 0 < k → n % k ≡ 0 → div_ceil n k ≡ n / k
+ceil-whole n k h none = omega (arith, div-add-mod' n k)
 
 -- the whole units of k in n + 1 values, where the last one ends none, and where it ends one
 count-same : (n k : ℕ) → 0 < k → (n + 1) % k ≢ 0 → (n + 1) / k ≡ n / k

@@ -11,8 +11,8 @@ use Rattle.hpe_send.specs.Chaining.{Chaining, HasTaken}
 use Rattle.hpe_send.specs.Streaming.{bit_slots}
 use Rattle.hpe_io.proofs.Fronts.{IsFront, grows-front}
 use Rattle.hpe_send.proofs.Stepped.{next-front}
-use Rattle.hpe_send.proofs.Streamed.{stream-front}
 use Rattle.hpe_send.proofs.Worded.{bit_slots-front}
+use Rattle.hpe_base.proofs.SentFrames.{stream-front}
 
 -- the slots of fewer octets stand at the front
 stream_slots-front : (p : Parameters) (octets more : List ℕ) → IsValid p → IsFront (bit_slots p (bit_stream p octets)) (bit_slots p (bit_stream p (octets ++ more)))

@@ -37,7 +37,8 @@ pub fn read_counts(p: &Profile, octets: &[u8], counts: &mut [u16])
 /// Adds the counts of one sending to the sums, position by position. A sum that passes 16,383 is cut there.
 fn add_counts(counts: &[u16], sums: &mut [u16])
     requires size { length counts.now ≡ length sums.old }
-    ensures { (v : ℕ) → v < length sums.old → slice_index sums.new v ≡ min clamp (slice_index sums.old v + slice_index counts.now v) }
+    ensures { (v : ℕ) → v < length sums.old
+        → slice_index sums.new v ≡ min clamp (slice_index sums.old v + slice_index counts.now v) }
 {
     for (v, sum) in sums.iter_mut().enumerate() {
         *sum = sum.saturating_add(counts[v]).min(CLAMP);

@@ -1,17 +1,17 @@
 -- How large the rows of the outer trellis are.
-use Rattle.std.proofs.Common.{◌≡◌, ℕ, zero, suc, ◌+◌, ◌*◌, ◌/◌, ◌%◌, ◌<◌, ◌≤◌, ◌⊎◌, inl, inr, sym, ◌∙◌, ap, subst, refl, arith, ℤ, pos, negsuc, ◌+ℤ◌, ◌≤ℤ◌, List, [], ◌∷◌, ◌++◌, length, drop, Bool, true, false, replicate, add-zero, zero-add, add-one}
+use Rattle.std.proofs.Common.{◌≡◌, ℕ, zero, suc, ◌+◌, ◌*◌, ◌/◌, ◌%◌, ◌<◌, ◌≤◌, ◌⊎◌, inl, inr, sym, ◌∙◌, ap, subst, refl, arith, ℤ, pos, negsuc, ◌+ℤ◌, ◌≤ℤ◌, List, [], ◌∷◌, ◌++◌, drop, Bool, replicate, add-zero, zero-add, add-one}
 use Rattle.std.proofs.lemmas.Int.{ints}
 use Rattle.hpe_base.specs.Trellis.{walk, ends, IsPath}
 use Rattle.hpe_base.proofs.Greatest.{le_trans}
-use Rattle.hpe_base.proofs.Trellis.{Fore, Back, IsRun, path-append, ends-append, ends-below, stage-suc}
+use Rattle.hpe_base.proofs.Trellis.{Fore, Back, IsRun, path-append, ends-append, ends-below, stage-suc, replicate-path}
 use Rattle.hpe_base.specs.Sizes.{Within, AllWithin}
 use Rattle.hpe_base.specs.ConvolutionalCode.{selected}
 use Rattle.hpe_lane.specs.OuterStage.{edge_outputs, outer_next}
 use Rattle.hpe_lane.proofs.ChosenSums.{chosen-within}
 use Rattle.hpe_lane.proofs.Sizes.{zero_within, drop_within}
 use Rattle.hpe_lane.proofs.OuterEdges.{outer-stays}
-use Rattle.hpe_trellis.proofs.KeptBits.{length-kept}
 use Rattle.hpe_trellis.specs.OuterTrellis.{column, width, kept_before, outer_edge, outer_start}
+use Rattle.hpe_base.proofs.Selected.{length-selected-same, selected-fits}
 
 -- the code bits that are kept of n steps from step t on
 abbrev pub kept_count : List (List Bool) → ℕ → ℕ → ℕ
@@ -37,19 +37,12 @@ kept-count-all columns n = sym (zero-add (kept_count columns 0 n)) ∙ kept-coun
 sum_within : (a b : ℕ) (x z : ℤ) → Within (a * 16383) x → Within (b * 16383) z → Within ((a + b) * 16383) (x +ℤ z)
 sum_within a b x z h k = (let p = h.0 in let q = k.0 in omega (arith, ints), let p = h.1 in let q = k.1 in omega (arith, ints))
 
--- no more are kept than there are
-pub selected-fits : (fs : List Bool) (xs : List ℕ) → length (selected fs xs) ≤ length xs
-selected-fits [] xs = omega arith
-selected-fits (f ∷ fs) [] = omega arith
-selected-fits (true ∷ fs) (x ∷ xs) = let h = selected-fits fs xs in omega arith
-selected-fits (false ∷ fs) (x ∷ xs) = let h = selected-fits fs xs in omega arith
-
 -- a step keeps three outputs at most
 pub width-small : (columns : List (List Bool)) (t : ℕ) → width columns t ≤ 3
 width-small columns t = selected-fits (column columns t) (0 ∷ 0 ∷ 0 ∷ [])
 
 -- the first and the last state add nothing above 0
-start_high : (q : ℕ) → outer_start q ≤ℤ pos 0
+pub start_high : (q : ℕ) → outer_start q ≤ℤ pos 0
 start_high zero = omega (arith, ints)
 start_high (suc q) = omega (arith, ints)
 
@@ -76,20 +69,15 @@ one_end q h = omega arith
 two_more : (t : ℕ) → t + 2 ≡ suc (suc t)
 two_more t = omega arith
 
--- zeros are a path
-pub zeros-path : (k : ℕ) → IsPath 2 k (replicate k 0)
-zeros-path zero = tt
-zeros-path (suc k) = (omega arith, zeros-path k)
-
 -- the last two inputs of a path decide the state that it ends in
 pub ends-two : (t p a b : ℕ) → p < 4 → b < 2 → ends outer_next p (replicate t 0 ++ b ∷ a ∷ []) ≡ 2 * a + b
 ends-two t p a b h k =
     ends-append outer_next p (replicate t 0) (b ∷ a ∷ [])
-    ∙ two_ends (ends outer_next p (replicate t 0)) a b (ends-below 2 4 t outer_next outer-stays p (replicate t 0) h (zeros-path t)) k
+    ∙ two_ends (ends outer_next p (replicate t 0)) a b (ends-below 2 4 t outer_next outer-stays p (replicate t 0) h (replicate-path 2 t 0 (omega arith))) k
 
 -- zeros and two inputs are a path
 two-path : (t a b : ℕ) → a < 2 → b < 2 → IsPath 2 (suc (suc t)) (replicate t 0 ++ b ∷ a ∷ [])
-two-path t a b h k = subst (λ (n : ℕ). IsPath 2 n (replicate t 0 ++ b ∷ a ∷ [])) (two_more t) (path-append 2 t 2 (replicate t 0) (b ∷ a ∷ []) (zeros-path t) (k, (h, tt)))
+two-path t a b h k = subst (λ (n : ℕ). IsPath 2 n (replicate t 0 ++ b ∷ a ∷ [])) (two_more t) (path-append 2 t 2 (replicate t 0) (b ∷ a ∷ []) (replicate-path 2 t 0 (omega arith)) (k, (h, tt)))
 
 low_whole : (n : ℕ) (w : ℤ) → n ≤ 15120 → Within (n * 16383) w → negsuc 599999999 ≤ℤ (pos 0 +ℤ w)
 low_whole n w h k = let a = k.1 in omega (arith, ints)
@@ -125,7 +113,7 @@ module _ (columns : List (List Bool)) (l : List ℤ) (within : AllWithin 16383 l
   -- how large what an edge scores is
   pub outer-edge-within : (t p x : ℕ) → Within (width columns t * 16383) (outer_edge columns l t p x)
   outer-edge-within t p x =
-      subst (λ (k : ℕ). Within (k * 16383) (outer_edge columns l t p x)) (length-kept (column columns t) (edge_outputs p x) (0 ∷ 0 ∷ 0 ∷ []) refl)
+      subst (λ (k : ℕ). Within (k * 16383) (outer_edge columns l t p x)) (length-selected-same (column columns t) (edge_outputs p x) (0 ∷ 0 ∷ 0 ∷ []) refl)
       (chosen-within (drop (kept_before columns t) l) (selected (column columns t) (edge_outputs p x)) (drop_within 16383 (kept_before columns t) l within))
 
   -- how large what a path scores is

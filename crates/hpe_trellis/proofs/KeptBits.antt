@@ -1,5 +1,5 @@
 -- What is kept splits at every step, and the outer score is that of a path.
-use Rattle.std.proofs.Common.{◌≡◌, ℕ, zero, suc, ◌+◌, ◌-◌, ◌*◌, ◌/◌, ◌%◌, ◌<◌, ◌≤◌, sym, ◌∙◌, ap, ap₂, refl, arith, ℤ, pos, ◌+ℤ◌, List, [], ◌∷◌, ◌++◌, length, drop, get_or, Bool, true, false, cond, add-zero, zero-add, add-one, append_assoc, append-nil, length-append, replicate}
+use Rattle.std.proofs.Common.{◌≡◌, ℕ, zero, suc, ◌+◌, ◌-◌, ◌*◌, ◌/◌, ◌%◌, ◌<◌, ◌≤◌, sym, ◌∙◌, ap, ap₂, refl, arith, ℤ, pos, ◌+ℤ◌, List, [], ◌∷◌, ◌++◌, length, drop, get_or, Bool, cond, add-zero, zero-add, add-one, length-append, replicate}
 use Rattle.std.specs.Prelude.{nat_eq}
 use Rattle.std.proofs.lemmas.Bool.{le-leb}
 use Rattle.std.proofs.lemmas.List.{drop-drop, length-replicate}
@@ -8,11 +8,12 @@ use Rattle.hpe_base.specs.Trellis.{walk, IsPath}
 use Rattle.hpe_base.specs.PathScores.{chosen_sum}
 use Rattle.hpe_base.specs.Lists.{joined}
 use Rattle.hpe_base.specs.ConvolutionalCode.{earlier, outputs, selected, kept_at, code_bits}
-use Rattle.hpe_base.proofs.Tabulated.{joined-same, joined-none}
+use Rattle.hpe_base.proofs.Tabulated.{joined-same, joined-none, joined-first}
 use Rattle.hpe_base.proofs.Trellis.{stage-suc, earlier-none, chosen_sum-none}
 use Rattle.hpe_lane.specs.OuterStage.{outer_next, edge_outputs}
 use Rattle.hpe_lane.proofs.OuterEdges.{outer-stays}
 use Rattle.hpe_trellis.specs.OuterTrellis.{column, width, kept_before, outer_edge}
+use Rattle.hpe_base.proofs.Selected.{length-selected-same}
 
 -- the outputs for an input after a, and b before that
 abbrev outputs_after : ℕ → ℕ → ℕ → List ℕ
@@ -22,12 +23,6 @@ outputs_after x a b = outputs (b ∷ a ∷ x ∷ []) 2
 abbrev pub kept_from : List (List Bool) → ℕ → ℕ → ℕ → List ℕ → List ℕ
 kept_from columns t a b [] = []
 kept_from columns t a b (x ∷ u) = selected (column columns t) (outputs_after x a b) ++ kept_from columns (t + 1) x a u
-
--- pieces, the first one first
-joined-first : {X : Type 0} (n : ℕ) (f : ℕ → List X) → joined (suc n) f ≡ f 0 ++ joined n (λ k. f (suc k))
-unfolding joined
-joined-first zero f = sym (append-nil (f 0))
-joined-first (suc n) f = ap (λ xs. xs ++ f (suc n)) (joined-first n f) ∙ append_assoc (f 0) (joined n (λ k. f (suc k))) (f (suc n))
 
 -- the input one step before step s, and two steps before
 abbrev prior1 : ℕ → List ℕ → ℕ → ℕ
@@ -99,15 +94,6 @@ pub code_bits-are : (columns : List (List Bool)) (u : List ℕ) → code_bits co
 code_bits-are columns u =
     joined-same (length u) (kept_at columns u) (placed columns 0 0 0 u) (λ s h. placed_here columns u s) ∙ placed-is columns 0 0 0 u
 
--- how many are kept does not depend on the bits
-pub length-kept : (fs : List Bool) (xs ys : List ℕ) → length xs ≡ length ys → length (selected fs xs) ≡ length (selected fs ys)
-length-kept [] xs ys e = refl
-length-kept (f ∷ fs) [] [] e = refl
-length-kept (f ∷ fs) [] (y ∷ ys) e = absurd (omega arith)
-length-kept (f ∷ fs) (x ∷ xs) [] e = absurd (omega arith)
-length-kept (true ∷ fs) (x ∷ xs) (y ∷ ys) e = ap suc (length-kept fs xs ys (omega arith))
-length-kept (false ∷ fs) (x ∷ xs) (y ∷ ys) e = length-kept fs xs ys (omega arith)
-
 next_before : (columns : List (List Bool)) (t : ℕ) → kept_before columns t + width columns t ≡ kept_before columns (t + 1)
 next_before columns t = ap (kept_before columns) (sym (add-one t))
 
@@ -115,7 +101,7 @@ next_before columns t = ap (kept_before columns) (sym (add-one t))
 length-kept_from : (columns : List (List Bool)) (t a b : ℕ) (u : List ℕ) → kept_before columns t + length (kept_from columns t a b u) ≡ kept_before columns (t + length u)
 length-kept_from columns t a b [] = add-zero (kept_before columns t) ∙ ap (kept_before columns) (sym (add-zero t))
 length-kept_from columns t a b (x ∷ u) =
-    let here : length (selected (column columns t) (outputs_after x a b)) ≡ width columns t = length-kept (column columns t) (outputs_after x a b) (0 ∷ 0 ∷ 0 ∷ []) refl in
+    let here : length (selected (column columns t) (outputs_after x a b)) ≡ width columns t = length-selected-same (column columns t) (outputs_after x a b) (0 ∷ 0 ∷ 0 ∷ []) refl in
     let rest : kept_before columns (t + 1) + length (kept_from columns (t + 1) x a u) ≡ kept_before columns (t + 1 + length u) = length-kept_from columns (t + 1) x a u in
     let next : kept_before columns t + width columns t ≡ kept_before columns (t + 1) = next_before columns t in
     let all : kept_before columns (t + suc (length u)) ≡ kept_before columns (t + 1 + length u) = ap (kept_before columns) (stage-suc t (length u)) in
@@ -163,7 +149,7 @@ outer-walk-is columns l (suc n) t p (x ∷ us) low h =
     let ks : List ℕ = selected (column columns t) (edge_outputs p x) in
     let L : List ℤ = drop (kept_before columns t) l in
     let q : ℕ = 2 * x + p / 2 in
-    let long : length ks ≡ width columns t = length-kept (column columns t) (edge_outputs p x) (0 ∷ 0 ∷ 0 ∷ []) refl in
+    let long : length ks ≡ width columns t = length-selected-same (column columns t) (edge_outputs p x) (0 ∷ 0 ∷ 0 ∷ []) refl in
     let off : drop (length ks) L ≡ drop (kept_before columns (t + 1)) l =
     drop-drop (length ks) (kept_before columns t) l ∙ ap (λ (k : ℕ). drop (kept_before columns t + k) l) long ∙ ap (λ (k : ℕ). drop k l) (next_before columns t) in
     let states : kept_from columns (t + 1) x (p / 2) us ≡ kept_from columns (t + 1) (q / 2) (q % 2) us =

@@ -13,12 +13,12 @@ use Rattle.hpe_base.specs.Sizes.{number_at, AllWithin}
 use Rattle.hpe_base.specs.ConvolutionalCode.{selected}
 use Rattle.hpe_lane.specs.OuterStage.{edge_outputs, outer_next, edge_sum, soft_bit}
 use Rattle.hpe_lane.proofs.OuterEdges.{outer-stays}
-use Rattle.hpe_trellis.proofs.KeptBits.{length-kept}
 use Rattle.hpe_lane.proofs.Soft.{IsGreatest-score, IsSoft-score}
 use Rattle.hpe_trellis.specs.OuterTrellis.{column, width, kept_before, outer_edge, outer_start, OuterFore, OuterBack, IsInformationSoft, IsCodeSoft, SoftFrom, put_all}
 use Rattle.hpe_lane.proofs.OuterEdges.{at_four}
 use Rattle.hpe_trellis.proofs.Runs.{code_bit, soft-info, soft-code}
 use Rattle.hpe_trellis.proofs.StepOutputs.{flag_index, selected-index, put-at, put-above}
+use Rattle.hpe_base.proofs.Selected.{length-selected-same}
 
 -- the soft value of equal bits
 IsSoft-bits : {A : Type 0} {P : A → Type 0} {b c : A → ℕ} {f : A → ℤ} {z : ℤ} → ((x : A) → b x ≡ c x) → IsSoft P b f z → IsSoft P c f z
@@ -90,7 +90,7 @@ module _ (columns : List (List Bool)) (l : List ℤ) (within : AllWithin 16383 l
   code-here i h =
       let k : ℕ = suc (flag_index (column columns t) i) in
       let bit : (p x : ℕ) → soft_bit k p x ≡ code_bit columns t i p x = λ p x.
-      sym (selected-index (column columns t) (edge_outputs p x) i (subst (λ (j : ℕ). i < j) (length-kept (column columns t) (0 ∷ 0 ∷ 0 ∷ []) (edge_outputs p x) refl) h)).1 in
+      sym (selected-index (column columns t) (edge_outputs p x) i (subst (λ (j : ℕ). i < j) (length-selected-same (column columns t) (0 ∷ 0 ∷ 0 ∷ []) (edge_outputs p x) refl) h)).1 in
       soft-code columns l within n t cap left all fore brow so_far later i (number_at soft k) two h (IsSoft-bits (λ e. bit e.0 e.1) (values_are k (index_low i h)))
 
 -- later steps have more kept bits before them

@@ -1,5 +1,5 @@
 -- What the rows meet in is the top score of all free words.
-use Rattle.std.proofs.Common.{◌≡◌, ℕ, zero, suc, ◌+◌, ◌-◌, ◌*◌, ◌/◌, ◌%◌, ◌<◌, ◌≤◌, ◌⊎◌, inl, inr, ⊎_elim, sym, ◌∙◌, ap, ap₂, subst, refl, arith, ℤ, pos, negsuc, ◌+ℤ◌, ◌-ℤ◌, ◌≤ℤ◌, ◌<ℤ◌, List, [], ◌∷◌, ◌++◌, length, get_or, Bool, true, false, Option, Some, replicate, add-zero, zero-add, append_assoc, eq-eqb}
+use Rattle.std.proofs.Common.{◌≡◌, ℕ, zero, suc, ◌+◌, ◌-◌, ◌*◌, ◌/◌, ◌%◌, ◌<◌, ◌≤◌, ◌⊎◌, inl, inr, ⊎_elim, sym, ◌∙◌, ap, ap₂, subst, refl, arith, ℤ, pos, negsuc, ◌+ℤ◌, ◌-ℤ◌, ◌≤ℤ◌, ◌<ℤ◌, List, [], ◌∷◌, ◌++◌, length, get_or, Bool, true, Option, Some, replicate, add-zero, zero-add, append_assoc, eq-eqb}
 use Rattle.std.specs.Prelude.{nat_eq, IsSome}
 use Rattle.std.proofs.lemmas.Int.{ints}
 use Rattle.std.proofs.lemmas.Bool.{eqb-true, cases_lt}
@@ -10,19 +10,17 @@ use Rattle.hpe_base.specs.Trellis.{walk, ends, IsPath, IsEdge, state_at}
 use Rattle.hpe_base.specs.GreatestScores.{top_from, information_top, code_top}
 use Rattle.hpe_base.specs.SoftValues.{difference, information_soft_value, code_soft_value}
 use Rattle.hpe_base.proofs.Greatest.{IsGreatest-exclude, IsGreatest-carry}
-use Rattle.hpe_base.proofs.Trellis.{IsRun, cut, path-append, path-length, ends-append, ends-below, state-append, input-append, meet}
+use Rattle.hpe_base.proofs.Trellis.{IsRun, cut, path-append, path-length, ends-append, ends-below, state-append, input-append, meet, replicate-path, stage-suc, zero-walk-zero}
 use Rattle.hpe_base.proofs.GreatestScores.{top-is}
 use Rattle.hpe_base.specs.Sizes.{number_at, Within, AllWithin}
 use Rattle.hpe_base.specs.ConvolutionalCode.{selected, code_bits}
 use Rattle.hpe_base.specs.PathScores.{outer_score}
 use Rattle.hpe_lane.specs.OuterStage.{edge_outputs, outer_next}
 use Rattle.hpe_lane.proofs.OuterEdges.{outer-stays}
-use Rattle.hpe_trellis.proofs.KeptBits.{length-kept, outer-score-is, kept_from, code_bits-are, halves, parity}
+use Rattle.hpe_trellis.proofs.KeptBits.{outer-score-is, kept_from, code_bits-are, halves, parity}
 use Rattle.hpe_trellis.specs.OuterTrellis.{column, width, kept_before, outer_edge, outer_start, OuterFore, OuterBack, IsInformationSoft, IsCodeSoft}
-use Rattle.hpe_trellis.proofs.Bounds.{kept_count, kept-count-all, outer-walk-within, start_cases, zeros-path}
-
-step_on : (t s : ℕ) → t + 1 + s ≡ t + suc s
-step_on t s = omega arith
+use Rattle.hpe_trellis.proofs.Bounds.{kept_count, kept-count-all, outer-walk-within, start_cases, start_high}
+use Rattle.hpe_base.proofs.Selected.{length-selected-same, selected-all}
 
 assoc3 : (a b c : ℕ) → a + b + c ≡ a + (b + c)
 assoc3 a b c = omega arith
@@ -38,7 +36,7 @@ kept-bit columns s zero t p i us low h lt li = absurd (omega arith)
 kept-bit columns s (suc n) t p i [] low h lt li = absurd h
 kept-bit columns zero (suc n) t p i (x ∷ us) low h lt li =
     let F : List ℕ = selected (column columns t) (edge_outputs p x) in
-    let long : length F ≡ width columns t = length-kept (column columns t) (edge_outputs p x) (0 ∷ 0 ∷ 0 ∷ []) refl in
+    let long : length F ≡ width columns t = length-selected-same (column columns t) (edge_outputs p x) (0 ∷ 0 ∷ 0 ∷ []) refl in
     let li2 : i < width columns t = subst (λ (k : ℕ). i < width columns k) (add-zero t) li in
     let li3 : i < length F = subst (λ (k : ℕ). i < k) (sym long) li2 in
     ap (λ (k : ℕ). get_or (F ++ kept_from columns (t + 1) x (p / 2) us) k 0) (zero-add i)
@@ -47,15 +45,15 @@ kept-bit columns zero (suc n) t p i (x ∷ us) low h lt li =
 kept-bit columns (suc s) (suc n) t p i (x ∷ us) low h lt li =
     let F : List ℕ = selected (column columns t) (edge_outputs p x) in
     let q : ℕ = 2 * x + p / 2 in
-    let long : length F ≡ width columns t = length-kept (column columns t) (edge_outputs p x) (0 ∷ 0 ∷ 0 ∷ []) refl in
+    let long : length F ≡ width columns t = length-selected-same (column columns t) (edge_outputs p x) (0 ∷ 0 ∷ 0 ∷ []) refl in
     let rest : List ℕ = kept_from columns (t + 1) x (p / 2) us in
     let states : rest ≡ kept_from columns (t + 1) (q / 2) (q % 2) us = ap₂ (λ (a b : ℕ). kept_from columns (t + 1) a b us) (sym (halves x p low)) (sym (parity x p low)) in
-    let li2 : i < width columns (t + 1 + s) = subst (λ (k : ℕ). i < width columns k) (sym (step_on t s)) li in
+    let li2 : i < width columns (t + 1 + s) = subst (λ (k : ℕ). i < width columns k) (stage-suc t s) li in
     ap (λ (k : ℕ). get_or (F ++ rest) k 0) (assoc3 (width columns t) (kept_count columns (t + 1) s) i ∙ ap (λ (k : ℕ). k + (kept_count columns (t + 1) s + i)) (sym long))
     ∙ get_or-append-add F rest (kept_count columns (t + 1) s + i) 0
     ∙ ap (λ (ys : List ℕ). get_or ys (kept_count columns (t + 1) s + i) 0) states
     ∙ kept-bit columns s n (t + 1) q i us (outer-stays p x low h.0) h.1 (omega arith) li2
-    ∙ ap (λ (k : ℕ). code_bit columns k i (state_at outer_next q us s) (get_or us s 0)) (step_on t s)
+    ∙ ap (λ (k : ℕ). code_bit columns k i (state_at outer_next q us s) (get_or us s 0)) (sym (stage-suc t s))
 
 -- the same of a whole word
 pub code-bit-is : (columns : List (List Bool)) (n t i : ℕ) (us : List ℕ) → IsPath 2 n us → t < n → i < width columns t
@@ -92,12 +90,6 @@ zero_ended n us h e =
     let e2 : ends outer_next p (c.here ∷ c.rest) ≡ 0 = sym (ends-append outer_next 0 c.front (c.here ∷ c.rest)) ∙ ap (ends outer_next 0) (sym c.whole) ∙ e in
     (c.front, (c.front_path, c.whole ∙ ap (λ (vs : List ℕ). c.front ++ vs) (last_two p c.here c.rest low c.here_low c.rest_path e2)))
 
-bit_same : (a b : ℕ) → a ≡ b → nat_eq a b ≡ true
-bit_same a b h = eq-eqb a b h
-
-plain : (w : ℤ) → (pos 0 +ℤ w) +ℤ pos 0 ≡ w
-plain w = omega (arith, ints)
-
 low_start : (n : ℕ) (w f : ℤ) → n ≤ 15120 → Within (n * 16383) w → f ≤ℤ pos 0 → ((negsuc 499999999 +ℤ w) +ℤ f) ≤ℤ negsuc 250000000
 low_start n w f h k l = let a = k.0 in omega (arith, ints)
 
@@ -106,10 +98,6 @@ low_end n w i h k l = let a = k.0 in omega (arith, ints)
 
 high_real : (n : ℕ) (w : ℤ) → n ≤ 15120 → Within (n * 16383) w → negsuc 250000000 <ℤ ((pos 0 +ℤ w) +ℤ pos 0)
 high_real n w h k = let a = k.1 in omega (arith, ints)
-
-start_high : (q : ℕ) → outer_start q ≤ℤ pos 0
-start_high zero = omega (arith, ints)
-start_high (suc q) = omega (arith, ints)
 
 -- a word that a class has, as a run from state 0 to state 0
 pub record Sample (n t : ℕ) (class : ℕ → ℕ → Type 0) : Type 0 where
@@ -162,7 +150,7 @@ module _ (columns : List (List Bool)) (l : List ℤ) (within : AllWithin 16383 l
   score_of : (w : List ℕ) → IsPath 2 n w → outer_score columns l w ≡ scored_run (0, w ++ 0 ∷ 0 ∷ [])
   score_of w h =
       outer-score-is columns l (n + 2) (w ++ 0 ∷ 0 ∷ []) (free-path n w h)
-      ∙ sym (plain (walk (outer_edge columns l) outer_next 0 0 (w ++ 0 ∷ 0 ∷ [])))
+      ∙ sym (zero-walk-zero (walk (outer_edge columns l) outer_next 0 0 (w ++ 0 ∷ 0 ∷ [])))
       ∙ ap (λ (q : ℕ). (pos 0 +ℤ walk (outer_edge columns l) outer_next 0 0 (w ++ 0 ∷ 0 ∷ [])) +ℤ outer_start q) (sym (free-ends n w h))
 
   -- and is the greatest of the words
@@ -195,7 +183,7 @@ abbrev unit_run : ℕ → ℕ → ℕ → List ℕ
 unit_run a b c = replicate a 0 ++ b ∷ 0 ∷ 0 ∷ replicate c 0
 
 unit-path : (a b c : ℕ) → b < 2 → IsPath 2 (a + suc (suc (suc c))) (unit_run a b c)
-unit-path a b c h = path-append 2 a (suc (suc (suc c))) (replicate a 0) (b ∷ 0 ∷ 0 ∷ replicate c 0) (zeros-path a) (h, (omega arith, (omega arith, zeros-path c)))
+unit-path a b c h = path-append 2 a (suc (suc (suc c))) (replicate a 0) (b ∷ 0 ∷ 0 ∷ replicate c 0) (replicate-path 2 a 0 (omega arith)) (h, (omega arith, (omega arith, replicate-path 2 c 0 (omega arith))))
 
 zeros-end : (k : ℕ) → ends outer_next 0 (replicate k 0) ≡ 0
 zeros-end zero = refl
@@ -214,16 +202,16 @@ unit-ends a b c h =
     ∙ zeros-end c
 
 unit-state : (a b c : ℕ) → state_at outer_next 0 (unit_run a b c) a ≡ 0
-unit-state a b c = state-append outer_next 2 a 0 (replicate a 0) (b ∷ 0 ∷ 0 ∷ replicate c 0) (zeros-path a) ∙ zeros-end a
+unit-state a b c = state-append outer_next 2 a 0 (replicate a 0) (b ∷ 0 ∷ 0 ∷ replicate c 0) (replicate-path 2 a 0 (omega arith)) ∙ zeros-end a
 
 unit-input : (a b c : ℕ) → get_or (unit_run a b c) a 0 ≡ b
-unit-input a b c = input-append 2 a b (replicate a 0) (0 ∷ 0 ∷ replicate c 0) (zeros-path a)
+unit-input a b c = input-append 2 a b (replicate a 0) (0 ∷ 0 ∷ replicate c 0) (replicate-path 2 a 0 (omega arith))
 
 regroup_unit : (a b c : ℕ) → unit_run a b c ≡ (replicate a 0 ++ b ∷ 0 ∷ []) ++ 0 ∷ replicate c 0
 regroup_unit a b c = sym (append_assoc (replicate a 0) (b ∷ 0 ∷ []) (0 ∷ replicate c 0))
 
 front-path : (a b : ℕ) → b < 2 → IsPath 2 (a + 2) (replicate a 0 ++ b ∷ 0 ∷ [])
-front-path a b h = path-append 2 a 2 (replicate a 0) (b ∷ 0 ∷ []) (zeros-path a) (h, (omega arith, tt))
+front-path a b h = path-append 2 a 2 (replicate a 0) (b ∷ 0 ∷ []) (replicate-path 2 a 0 (omega arith)) (h, (omega arith, tt))
 
 unit-state-2 : (a b c : ℕ) → b < 2 → state_at outer_next 0 (unit_run a b c) (a + 2) ≡ b
 unit-state-2 a b c h =
@@ -236,14 +224,6 @@ unit-input-2 : (a b c : ℕ) → b < 2 → get_or (unit_run a b c) (a + 2) 0 ≡
 unit-input-2 a b c h =
     ap (λ (us : List ℕ). get_or us (a + 2) 0) (regroup_unit a b c)
     ∙ input-append 2 (a + 2) 0 (replicate a 0 ++ b ∷ 0 ∷ []) (replicate c 0) (front-path a b h)
-
--- each output, at the bit and two steps after it, is the bit
-pub selected-all : (fs : List Bool) (xs : List ℕ) (b i : ℕ) → ((k : ℕ) → k < length xs → get_or xs k 0 ≡ b) → i < length (selected fs xs) → get_or (selected fs xs) i 0 ≡ b
-selected-all [] xs b i f h = absurd (omega arith)
-selected-all (g ∷ fs) [] b i f h = absurd (omega arith)
-selected-all (false ∷ fs) (x ∷ xs) b i f h = selected-all fs xs b i (λ k lt. f (suc k) (omega arith)) h
-selected-all (true ∷ fs) (x ∷ xs) b zero f h = f 0 (omega arith)
-selected-all (true ∷ fs) (x ∷ xs) b (suc i) f h = selected-all fs xs b i (λ k lt. f (suc k) (omega arith)) (omega arith)
 
 three_alike : (x y z b k : ℕ) → x ≡ b → y ≡ b → z ≡ b → k < 3 → get_or (x ∷ y ∷ z ∷ []) k 0 ≡ b
 three_alike x y z b zero e f g h = e
@@ -265,13 +245,13 @@ CodeClass columns t i b p x = code_bit columns t i p x ≡ b
 class_first : (columns : List (List Bool)) (t i b : ℕ) → b < 2 → i < width columns t → code_bit columns t i 0 b ≡ b
 class_first columns t i b h li =
     selected-all (column columns t) (edge_outputs 0 b) b i (λ k lt. outputs_first b k h lt)
-    (subst (λ (k : ℕ). i < k) (length-kept (column columns t) (0 ∷ 0 ∷ 0 ∷ []) (edge_outputs 0 b) refl) li)
+    (subst (λ (k : ℕ). i < k) (length-selected-same (column columns t) (0 ∷ 0 ∷ 0 ∷ []) (edge_outputs 0 b) refl) li)
 
 -- and again two steps later
 class_last : (columns : List (List Bool)) (t i b : ℕ) → b < 2 → i < width columns t → code_bit columns t i b 0 ≡ b
 class_last columns t i b h li =
     selected-all (column columns t) (edge_outputs b 0) b i (λ k lt. outputs_last b k h lt)
-    (subst (λ (k : ℕ). i < k) (length-kept (column columns t) (0 ∷ 0 ∷ 0 ∷ []) (edge_outputs b 0) refl) li)
+    (subst (λ (k : ℕ). i < k) (length-selected-same (column columns t) (0 ∷ 0 ∷ 0 ∷ []) (edge_outputs b 0) refl) li)
 
 -- so there is a word with that bit, for a step with an information bit
 sample_at : (columns : List (List Bool)) (a c n i b : ℕ) → b < 2 → i < width columns a → a + suc (suc (suc c)) ≡ n + 2 → Sample n a (CodeClass columns a i b)
@@ -335,7 +315,7 @@ code_there columns n t i b lt li w h e =
 code_back : (columns : List (List Bool)) (n t i b : ℕ) → t < n + 2 → i < width columns t
     → (w : List ℕ) → IsPath 2 n w → code_bit columns t i (state_at outer_next 0 (w ++ 0 ∷ 0 ∷ []) t) (get_or (w ++ 0 ∷ 0 ∷ []) t 0) ≡ b → code_asked columns (kept_before columns t + i) b w ≡ true
 code_back columns n t i b lt li w h e =
-    bit_same (get_or (code_bits columns (w ++ 0 ∷ 0 ∷ [])) (kept_before columns t + i) 0) b (code-bit-is columns (n + 2) t i (w ++ 0 ∷ 0 ∷ []) (free-path n w h) lt li ∙ e)
+    eq-eqb (get_or (code_bits columns (w ++ 0 ∷ 0 ∷ [])) (kept_before columns t + i) 0) b (code-bit-is columns (n + 2) t i (w ++ 0 ∷ 0 ∷ []) (free-path n w h) lt li ∙ e)
 
 free_get : (n t : ℕ) (w : List ℕ) → IsPath 2 n w → t < n → get_or (w ++ 0 ∷ 0 ∷ []) t 0 ≡ get_or w t 0
 free_get n t w h lt = let e = path-length 2 n w h in get_or-append w (0 ∷ 0 ∷ []) 0 t (omega arith)
@@ -368,7 +348,7 @@ module _ (columns : List (List Bool)) (l : List ℤ) (within : AllWithin 16383 l
   info_best b z h lt best =
       outer-meets columns l within n t cap (λ (p x : ℕ). x ≡ b) (info_asked t b) (sample_info n t b h lt)
       (λ w p e. free_get n t w p lt ∙ eqb-true (get_or w t 0) b e)
-      (λ w p e. bit_same (get_or w t 0) b (sym (free_get n t w p lt) ∙ e))
+      (λ w p e. eq-eqb (get_or w t 0) b (sym (free_get n t w p lt) ∙ e))
       left all fore brow so_far later z best
 
   -- the soft value of an information bit

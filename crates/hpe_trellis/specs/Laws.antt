@@ -5,13 +5,14 @@ use Rattle.hpe_base.specs.ConvolutionalCode.{code_bits, AreColumns}
 use Rattle.hpe_base.specs.PathScores.{outer_score}
 use Rattle.hpe_base.specs.Sizes.{Within, AllWithin}
 use Rattle.hpe_trellis.specs.OuterTrellis.{outer_start}
+use Rattle.hpe_base.specs.Parameters.{clamp, codeword_bits}
 
 -- the a-priori numbers of the code bits that are kept of n free bits and two termination bits
 pub record AreOfCode (columns : List (List Bool)) (n : ℕ) (l : List ℤ) : Type 0 where
   pub keep : AreColumns columns
   pub long : (u : List ℕ) → length u ≡ n + 2 → length l ≡ length (code_bits columns u)
-  pub short : length l ≤ 15120
-  pub within : AllWithin 16383 l
+  pub short : length l ≤ codeword_bits
+  pub within : AllWithin clamp l
 
 -- n bits
 pub record IsFree (n : ℕ) (u : List ℕ) : Type 0 where

@@ -1,13 +1,14 @@
 -- The outer code as a trellis that starts and ends in state 0.
-use Rattle.std.specs.Prelude.{◌≡◌, ℕ, zero, suc, ◌+◌, ◌%◌, ◌<◌, ◌≤◌, if◌then◌else◌, Bool, ℤ, pos, negsuc, List, [], ◌∷◌, length, drop, slice_index_or, slice_set, IsSome}
-use Rattle.hpe_base.specs.Sizes.{number_at}
-use Rattle.hpe_base.specs.ConvolutionalCode.{selected}
+use Rattle.std.specs.Prelude.{◌≡◌, ℕ, zero, suc, ◌+◌, ◌*◌, ◌%◌, ◌<◌, ◌≤◌, if◌then◌else◌, Bool, ℤ, pos, negsuc, List, [], ◌∷◌, length, drop, slice_index_or, slice_set, IsSome}
+use Rattle.hpe_base.specs.Parameters.{clamp, codeword_bits}
+use Rattle.hpe_base.specs.Sizes.{number_at, AllWithin}
+use Rattle.hpe_base.specs.ConvolutionalCode.{selected, AreColumns}
 use Rattle.hpe_base.specs.PathScores.{chosen_sum}
 use Rattle.hpe_base.specs.GreatestScores.{information_top, code_top}
 use Rattle.hpe_base.specs.SoftValues.{information_soft_value, code_soft_value}
 use Rattle.hpe_base.proofs.Trellis.{Fore, Back}
 use Rattle.hpe_lane.specs.OuterStage.{outer_next, edge_outputs}
-use Rattle.hpe_lane.specs.Windows.{sweep_rows}
+use Rattle.hpe_lane.specs.Windows.{window, windows, sweep_rows}
 
 -- the rows that the recursions over so many steps need
 abbrev pub outer_rows : ℕ → ℕ
@@ -42,6 +43,23 @@ pub record OuterFore (t : ℕ) (columns : List (List Bool)) (l : List ℤ) (row 
 -- the row before step t: at each state, the greatest score of the paths from there on, of so many steps
 pub record OuterBack (t left : ℕ) (columns : List (List Bool)) (l : List ℤ) (row : List ℤ) : Type 0 where
   pub top : (q : ℕ) → q < 4 → Back 2 (outer_edge columns l) outer_next outer_start t left q (number_at row q)
+
+-- what the recursions run over: columns of three flags, and a number for each code bit that they keep
+pub record IsOuterWord (columns : List (List Bool)) (l : List ℤ) : Type 0 where
+  pub are_columns : AreColumns columns
+  pub three : (i : ℕ) → i < length columns → length (slice_index_or columns i []) ≡ 3
+  pub short : length l ≤ codeword_bits
+  pub within : AllWithin clamp l
+
+-- the rows before `count` steps from `start` on
+abbrev pub AreForeRows : ℕ → ℕ → List (List Bool) → List ℤ → List (List ℤ) → Type 0
+AreForeRows start count columns l rows =
+    (i : ℕ) → i < count → OuterFore (start + i) columns l (slice_index_or rows i [])
+
+-- the row before each window of n steps
+abbrev pub AreKeptRows : ℕ → List (List Bool) → List ℤ → List (List ℤ) → Type 0
+AreKeptRows n columns l kept =
+    (w : ℕ) → w < windows n → OuterFore (window * w) columns l (slice_index_or kept w [])
 
 -- the soft value of information bit j of n
 pub record IsInformationSoft (columns : List (List Bool)) (l : List ℤ) (n j : ℕ) (soft : ℤ) : Type 0 where

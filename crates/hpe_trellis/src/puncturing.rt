@@ -1,7 +1,7 @@
 //! What the puncturing columns keep, which serve in turn: the places of the outputs of one step among the code bits.
 ghost use Rattle.std.specs.Prelude.{◌≡◌, ◌<◌, ◌≤◌, ◌+◌, ◌-◌, ◌%◌, ◌∷◌, [], ℕ, pos, length, drop, true, if◌then◌else◌, slice_set};
 ghost use Rattle.hpe_base.specs.Sizes.{number_at, AllWithin};
-ghost use Rattle.hpe_base.specs.Parameters.{clamp, flags_set};
+ghost use Rattle.hpe_base.specs.Parameters.{clamp, flags_set, codeword_bits};
 ghost use Rattle.hpe_base.specs.ConvolutionalCode.{selected};
 ghost use Rattle.hpe_base.specs.PathScores.{chosen_sum};
 ghost use Rattle.hpe_lane.specs.OuterStage.{edge_outputs, edge_sum};
@@ -27,9 +27,10 @@ fn taken(flag: bool, l: &[i32], at: usize) -> i32
 /// `at` on.
 pub fn step_numbers(column: &[bool; 3], l: &[i32], at: usize) -> [i32; 3]
     requires room { at + flags_set column.now ≤ length l.now }
-    requires short { length l.now ≤ 15120 }
+    requires short { length l.now ≤ codeword_bits }
     requires within { AllWithin clamp l.now }
-    ensures edge { (p x : ℕ) → edge_sum result p x ≡ chosen_sum (drop at l.now) (selected column.now (edge_outputs p x)) }
+    ensures edge { (p x : ℕ)
+        → edge_sum result p x ≡ chosen_sum (drop at l.now) (selected column.now (edge_outputs p x)) }
     ensures within { AllWithin clamp result }
 {
     let second = at + usize::from(column[0]);
@@ -53,7 +54,7 @@ fn put(flag: bool, value: i32, code: &mut [i32], at: usize)
 /// Writes the soft values of the outputs that the column keeps from place `at` on, of a step's input and three outputs.
 pub fn put_soft(column: &[bool; 3], soft: [i32; 4], code: &mut [i32], at: usize)
     requires room { at + flags_set column.now ≤ length code.old }
-    requires short { length code.old ≤ 15120 }
+    requires short { length code.old ≤ codeword_bits }
     ensures { code.new ≡ put_all column.now (number_at soft 1 ∷ number_at soft 2 ∷ number_at soft 3 ∷ []) code.old at }
 {
     let second = at + usize::from(column[0]);

@@ -1,35 +1,12 @@
 -- Clamped numbers, and the forms in which machine numbers hold them.
-use Rattle.std.proofs.Common.{◌≡◌, ◌<◌, ◌≤◌, ℕ, zero, suc, ℤ, pos, negsuc, ◌-ℤ◌, List, [], ◌∷◌, length, sym, ◌∙◌, ap, ap₂, subst, refl, arith, w32, to_z, of_z, replicate}
+use Rattle.std.proofs.Common.{◌≡◌, ℕ, ℤ, pos, negsuc, ◌-ℤ◌, ◌∙◌, ap, ap₂, refl, arith, w32, to_z, of_z}
 use Rattle.std.specs.Prelude.{min}
 use Rattle.std.specs.Int.{saturate_signed}
 use Rattle.std.proofs.lemmas.Int.{ints, clamps}
 use mir.Syntax.{w16}
-use Rattle.hpe_base.specs.Lists.{tabulate}
-use Rattle.hpe_base.specs.Sizes.{number_at, Within, AllWithin}
-use Rattle.hpe_base.specs.SoftValues.{clamped, scaled}
-use Rattle.hpe_base.proofs.Scaling.{scaled-within}
-use Rattle.hpe_base.proofs.Tabulated.{length-tabulate, get_or-tabulate}
-
-pub clamped_within : (v : ℤ) → Within 16383 (clamped v)
-clamped_within v = (omega (arith, ints, clamps), omega (arith, ints, clamps))
-
--- a list whose places are within bounds
-pub within_places : (xs : List ℤ) → ((i : ℕ) → i < length xs → Within 16383 (number_at xs i)) → AllWithin 16383 xs
-within_places [] f i = (omega (arith, ints), omega (arith, ints))
-within_places (x ∷ xs) f zero = f 0 (omega arith)
-within_places (x ∷ xs) f (suc i) = within_places xs (λ k h. f (suc k) (omega arith)) i
-
--- a list whose places are given by numbers that were clamped and scaled
-pub scaled_places : (s n : ℕ) (v : ℕ → ℤ) → s ≤ 8 → AllWithin 16383 (tabulate n (λ i. scaled s (clamped (v i))))
-scaled_places s n v few =
-    within_places (tabulate n (λ i. scaled s (clamped (v i)))) (λ i h.
-    let below : i < n = omega (arith, length-tabulate n (λ i. scaled s (clamped (v i)))) in
-    subst (Within 16383) (sym (get_or-tabulate n (λ i. scaled s (clamped (v i))) i (pos 0) below)) (scaled-within s 16383 (clamped (v i)) few (clamped_within (v i))))
-
-pub zeros_within : (n : ℕ) → AllWithin 16383 (replicate n (pos 0))
-zeros_within zero i = (omega (arith, ints), omega (arith, ints))
-zeros_within (suc n) zero = (omega (arith, ints), omega (arith, ints))
-zeros_within (suc n) (suc i) = zeros_within n i
+use Rattle.hpe_base.specs.Sizes.{Within}
+use Rattle.hpe_base.specs.SoftValues.{clamped}
+use Rattle.hpe_base.proofs.Scaling.{clamped_within}
 
 -- a small number stands in an i16 and in an i32 as it is
 pub held-16 : (x : ℤ) → Within 16383 x → to_z w16 (of_z w16 x) ≡ x

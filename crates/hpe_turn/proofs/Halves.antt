@@ -10,7 +10,7 @@ use Rattle.hpe_base.specs.Parameters.{information_bits}
 use Rattle.hpe_base.specs.Rounds.{outer_numbers, next_numbers, hard_bits, hard_bit}
 use Rattle.hpe_base.proofs.Tabulated.{tabulate_from_places}
 use Rattle.hpe_base.proofs.Permutation.{pi-pi_inverse, pi-lt, pi_inverse-lt}
-use Rattle.hpe_turn.proofs.Clamping.{scaled_places}
+use Rattle.hpe_base.proofs.Scaling.{scaled_places}
 
 -- the whole of a list that was lent
 pub whole_taken : {X : Type 0} (n : ℕ) (xs ys : List X) → n ≡ length xs → take n (xs ++ ys) ≡ xs

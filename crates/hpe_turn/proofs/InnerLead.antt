@@ -12,12 +12,12 @@ use Rattle.hpe_base.specs.Accumulator.{accumulated}
 use Rattle.hpe_base.specs.Mapper.{symbols_of}
 use Rattle.hpe_base.specs.PathScores.{chosen_sum, pulse_sum, inner_score}
 use Rattle.hpe_base.specs.declared.profile.Order.{Order}
-use Rattle.hpe_base.specs.declared.profile.Order.TheVariants.{P4, P8, P16, P32, P64, P128, P256}
 use Rattle.hpe_base.proofs.Tabulated.{length-tabulate, tabulate-same, sum-tabulate-suc}
 use Rattle.hpe_base.proofs.Trellis.{path-length, path_bits}
 use Rattle.hpe_base.proofs.Shapes.{length-accumulated, are_bits-accumulated, symbols_of-lt}
 use Rattle.hpe_ppm.proofs.InnerCode.{inner_code_is_one_to_one}
 use Rattle.hpe_turn.specs.Dominance.{Dominates}
+use Rattle.hpe_base.proofs.ParameterLemmas.{symbols_fill}
 
 cond_zeros : (b : Bool) → cond b (pos 0) (pos 0) ≡ pos 0
 cond_zeros true = refl
@@ -31,16 +31,6 @@ chosen_zeros (suc n) (b ∷ x) = ap₂ (λ (y z : ℤ). y +ℤ z) (cond_zeros (b
 
 less_alone : (a b : ℕ) (y z : ℤ) → y ≡ pos 0 → z ≡ pos 0 → a < b → (pos a +ℤ y) <ℤ (pos b +ℤ z)
 less_alone a b y z e f h = omega (arith, ints)
-
--- a codeword is whole symbols
-pub symbols_fill : (o : Order) → codeword_bits ≡ codeword_symbols o * symbol_bits o
-symbols_fill P4 = refl
-symbols_fill P8 = refl
-symbols_fill P16 = refl
-symbols_fill P32 = refl
-symbols_fill P64 = refl
-symbols_fill P128 = refl
-symbols_fill P256 = refl
 
 module _ (o : Order) (counts : List ℕ) where
   abbrev pulse : List ℕ → ℕ → ℕ

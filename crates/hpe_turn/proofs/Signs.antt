@@ -1,17 +1,17 @@
 -- The sign of a soft value, where one word leads all others.
-use Rattle.std.proofs.Common.{◌≡◌, ◌<◌, ◌≤◌, ◌⊎◌, ⊎_elim, ℕ, zero, suc, ℤ, pos, negsuc, ◌-ℤ◌, ◌≤ℤ◌, ◌<ℤ◌, List, [], true, Option, Some, None, replicate, sym, ap, ap₂, subst, refl, arith, eq-eqb}
+use Rattle.std.proofs.Common.{◌≡◌, ◌<◌, ◌≤◌, ◌⊎◌, ⊎_elim, ℕ, zero, suc, ℤ, pos, negsuc, ◌-ℤ◌, ◌≤ℤ◌, ◌<ℤ◌, List, [], true, Option, Some, replicate, sym, ap, ap₂, subst, refl, arith, eq-eqb}
 use Rattle.std.specs.Prelude.{◌==◌, slice_index}
 use Rattle.std.proofs.lemmas.Bool.{eqb-true}
 use Rattle.std.proofs.lemmas.Int.{ints, clamps}
 use Rattle.std.proofs.lemmas.List.{get_or-replicate}
 use Rattle.hpe_base.specs.Greatest.{IsGreatest}
 use Rattle.hpe_base.specs.Trellis.{IsPath}
-use Rattle.hpe_base.specs.GreatestScores.{top_from, IsTop}
+use Rattle.hpe_base.specs.GreatestScores.{top_from}
 use Rattle.hpe_base.specs.SoftValues.{difference, clamped, scaled}
 use Rattle.hpe_base.proofs.Scaling.{eighths-pos}
 use Rattle.hpe_base.specs.Rounds.{hard_bit}
 use Rattle.hpe_base.proofs.Greatest.{IsGreatest-widen}
-use Rattle.hpe_base.proofs.GreatestScores.{top-whole}
+use Rattle.hpe_base.proofs.GreatestScores.{top-whole, some_top}
 use Rattle.hpe_base.proofs.Trellis.{replicate-path}
 
 -- the value is above 0 where the bit is 1, and below 0 where it is 0
@@ -28,11 +28,6 @@ falls hi lo x y h e k = omega (arith, ints)
 
 differ : (a b : ℕ) → a ≡ 0 → b ≡ 1 → a ≡ b → ⊥
 differ a b e f g = omega arith
-
--- there is a top where there is a word
-some_top : {A : Type 0} (chosen : A → Type 0) (score : A → ℤ) (o : Option ℤ) → IsTop chosen score o → (x : A) → chosen x → (z : ℤ) × ((o ≡ Some z) × IsGreatest chosen score z)
-some_top chosen score None h x p = absurd (h x p)
-some_top chosen score (Some z) h x p = (z, (refl, h))
 
 module _ (n j : ℕ) (score : List ℕ → ℤ) (sent : List ℕ) (below : j < n) (path : IsPath 2 n sent)
     (lead : (x : List ℕ) → IsPath 2 n x → (x ≡ sent) ⊎ (score x <ℤ score sent)) where

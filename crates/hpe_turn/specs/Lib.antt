@@ -1,3 +1,4 @@
 pub mod Room
 pub mod FirstRight
 pub mod Dominance
+pub mod Stages

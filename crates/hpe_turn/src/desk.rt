@@ -1,11 +1,12 @@
 //! The decoder of one word.
 ghost use Rattle.std.specs.Prelude.{◌≡◌, ◌≤◌, ◌+◌, ◌*◌, ◌^◌, ℕ, List, All, length, IfOk};
 ghost use Rattle.hpe_base.specs.Bits.{AreBits};
-ghost use Rattle.hpe_base.specs.Parameters.{clamp, codeword_symbols, positions, code_steps, block_bits};
+ghost use Rattle.hpe_base.specs.Parameters.{clamp, codeword_symbols, positions, block_bits};
 ghost use Rattle.hpe_base.specs.Codeword.{codeword};
 ghost use Rattle.hpe_base.specs.Rounds.{Kept, Lost, verdict_of};
 ghost use Rattle.hpe_turn.specs.Dominance.{Dominates};
 ghost use Rattle.hpe_turn.specs.FirstRight.{IsFirstRight};
+ghost use Rattle.hpe_turn.specs.Stages.{round_stages, rounds_made};
 
 use crate::rounds::Rounds;
 use crate::verdict::Verdict;
@@ -53,15 +54,18 @@ impl Desk {
         requires counts { length counts.now ≡ codeword_symbols self.old.order * positions self.old.order }
         requires most { All (λ c. c ≤ clamp) counts.now }
         requires block { length block.old ≡ block_bits self.old.rate }
-        requires room { steps.old + self.old.rounds * (3 * (codeword_symbols self.old.order + code_steps self.old.rate)) ≤ 2 ^ 60 }
+        requires room { steps.old + self.old.rounds * round_stages self.old ≤ 2 ^ 60 }
         ensures profile { self.new ≡ self.old }
-        ensures kept { (round : ℕ) → result ≡ Verdict.Kept round → verdict_of self.old counts.now ≡ Kept round block.new }
+        ensures kept { (round : ℕ) → result ≡ Verdict.Kept round
+            → verdict_of self.old counts.now ≡ Kept round block.new }
         ensures lost { result ≡ Verdict.Lost → (verdict_of self.old counts.now ≡ Lost) × (block.new ≡ block.old) }
         ensures bits { (round : ℕ) → result ≡ Verdict.Kept round → AreBits block.new }
         ensures rounds { (round : ℕ) → result ≡ Verdict.Kept round → (1 ≤ round) × (round ≤ self.old.rounds) }
         ensures checked { (round : ℕ) → result ≡ Verdict.Kept round → IsFirstRight self.old counts.now round block.new }
-        ensures sent { (sent : List ℕ) → AreBits sent → length sent ≡ block_bits self.old.rate → Dominates (positions self.old.order) counts.now (codeword self.old sent) → (result ≡ Verdict.Kept 1) × (block.new ≡ sent) }
-        ensures cost { steps.new ≤ steps.old + self.old.rounds * (3 * (codeword_symbols self.old.order + code_steps self.old.rate)) }
+        ensures sent { (sent : List ℕ) → AreBits sent → length sent ≡ block_bits self.old.rate
+            → Dominates (positions self.old.order) counts.now (codeword self.old sent) → (result ≡ Verdict.Kept 1)
+            × (block.new ≡ sent) }
+        ensures cost { steps.new ≡ steps.old + rounds_made self.old result * round_stages self.old }
     {
         self.rounds.decode(counts, block, steps)
     }

@@ -34,7 +34,8 @@ pub fn scaled(v: i32, scale: u32) -> i32
 fn differences(soft: &[i32], given: &[i32], out: &mut [i16])
     requires soft { length soft.now ≡ length out.old }
     requires given { length given.now ≡ length out.old }
-    ensures value { (j : ℕ) → j < length out.old → number_at out.new j ≡ clamped (number_at soft.now j -ℤ number_at given.now j) }
+    ensures value { (j : ℕ) → j < length out.old
+        → number_at out.new j ≡ clamped (number_at soft.now j -ℤ number_at given.now j) }
 {
     for (j, value) in out.iter_mut().enumerate() {
         *value = cut(soft[j].saturating_sub(given[j])) as i16;
@@ -61,7 +62,8 @@ pub(crate) fn extrinsic(scale: u32, soft: &[i32], given: &[i32], out: &mut [i16]
     requires high { scale ≤ 8 }
     requires soft { length soft.now ≡ length out.old }
     requires given { length given.now ≡ length out.old }
-    ensures value { (j : ℕ) → j < length out.old → number_at out.new j ≡ scaled scale (clamped (number_at soft.now j -ℤ number_at given.now j)) }
+    ensures value { (j : ℕ) → j < length out.old
+        → number_at out.new j ≡ scaled scale (clamped (number_at soft.now j -ℤ number_at given.now j)) }
 {
     differences(soft, given, out);
     if scale < 8 {

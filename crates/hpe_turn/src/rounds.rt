@@ -7,6 +7,7 @@ ghost use Rattle.hpe_base.specs.SoftValues.{code_soft_value};
 ghost use Rattle.hpe_base.specs.Rounds.{Kept, Lost, outer_numbers, hard_bits, next_numbers, verdict_of};
 ghost use Rattle.hpe_turn.specs.Room.{HasRoom};
 ghost use Rattle.hpe_turn.specs.FirstRight.{IsFirstRight};
+ghost use Rattle.hpe_turn.specs.Stages.{round_stages, rounds_made};
 
 use crate::extrinsic::{decide, extrinsic, widen};
 use crate::verdict::Verdict;
@@ -79,14 +80,16 @@ impl Rounds {
 
     /// The first half of a round: what the inner code gives to the outer one.
     fn inner_half<L: Ledger>(&mut self, counts: &[u16], steps: &mut Steps<L>)
-        requires counts { length counts.now ≡ codeword_symbols self.old.profile.order * positions self.old.profile.order }
+        requires counts { length counts.now
+            ≡ codeword_symbols self.old.profile.order * positions self.old.profile.order }
         requires most { All (λ c. c ≤ clamp) counts.now }
         requires small { AllWithin clamp self.old.inner_numbers.items }
         requires room { steps.old + 3 * codeword_symbols self.old.profile.order ≤ 2 ^ 60 }
         ensures profile { self.new.profile ≡ self.old.profile }
-        ensures numbers { self.new.outer_numbers.items ≡ outer_numbers self.old.profile counts.now self.old.inner_numbers.items }
+        ensures numbers { self.new.outer_numbers.items
+            ≡ outer_numbers self.old.profile counts.now self.old.inner_numbers.items }
         ensures small { AllWithin clamp self.new.outer_numbers.items }
-        ensures cost { steps.new ≤ steps.old + 3 * codeword_symbols self.old.profile.order }
+        ensures cost { steps.new ≡ steps.old + 3 * codeword_symbols self.old.profile.order }
     {
         inner_soft(
             self.profile.order(),
@@ -108,10 +111,13 @@ impl Rounds {
         requires room { steps.old + 3 * code_steps self.old.profile.rate ≤ 2 ^ 60 }
         ensures profile { self.new.profile ≡ self.old.profile }
         ensures numbers { self.new.outer_numbers.items ≡ self.old.outer_numbers.items }
-        ensures soft { (i : ℕ) → i < codeword_bits → number_at self.new.soft.items i ≡ code_soft_value self.old.profile.columns self.old.outer_numbers.items (information_bits self.old.profile.rate) i }
+        ensures soft { (i : ℕ) → i < codeword_bits
+            → number_at self.new.soft.items i
+            ≡ code_soft_value self.old.profile.columns self.old.outer_numbers.items
+            (information_bits self.old.profile.rate) i }
         ensures hard { self.new.hard.items ≡ hard_bits self.old.profile self.old.outer_numbers.items }
         ensures bits { AreBits self.new.hard.items }
-        ensures cost { steps.new ≤ steps.old + 3 * code_steps self.old.profile.rate }
+        ensures cost { steps.new ≡ steps.old + 3 * code_steps self.old.profile.rate }
     {
         outer_soft(
             self.profile.columns(),
@@ -126,7 +132,10 @@ impl Rounds {
 
     /// What the outer code gives to the inner one for the next round.
     fn hand_back(&mut self)
-        requires soft { (i : ℕ) → i < codeword_bits → number_at self.old.soft.items i ≡ code_soft_value self.old.profile.columns self.old.outer_numbers.items (information_bits self.old.profile.rate) i }
+        requires soft { (i : ℕ) → i < codeword_bits
+            → number_at self.old.soft.items i
+            ≡ code_soft_value self.old.profile.columns self.old.outer_numbers.items
+            (information_bits self.old.profile.rate) i }
         ensures profile { self.new.profile ≡ self.old.profile }
         ensures numbers { self.new.inner_numbers.items ≡ next_numbers self.old.profile self.old.outer_numbers.items }
         ensures small { AllWithin clamp self.new.inner_numbers.items }
@@ -144,17 +153,21 @@ impl Rounds {
         block: &mut [u8],
         steps: &mut Steps<L>,
     ) -> Verdict
-        requires counts { length counts.now ≡ codeword_symbols self.old.profile.order * positions self.old.profile.order }
+        requires counts { length counts.now
+            ≡ codeword_symbols self.old.profile.order * positions self.old.profile.order }
         requires most { All (λ c. c ≤ clamp) counts.now }
         requires block { length block.old ≡ block_bits self.old.profile.rate }
-        requires room { steps.old + self.old.profile.rounds * (3 * (codeword_symbols self.old.profile.order + code_steps self.old.profile.rate)) ≤ 2 ^ 60 }
+        requires room { steps.old + self.old.profile.rounds * round_stages self.old.profile ≤ 2 ^ 60 }
         ensures profile { self.new.profile ≡ self.old.profile }
-        ensures kept { (round : ℕ) → result ≡ Verdict.Kept round → verdict_of self.old.profile counts.now ≡ Kept round block.new }
-        ensures lost { result ≡ Verdict.Lost → (verdict_of self.old.profile counts.now ≡ Lost) × (block.new ≡ block.old) }
+        ensures kept { (round : ℕ) → result ≡ Verdict.Kept round
+            → verdict_of self.old.profile counts.now ≡ Kept round block.new }
+        ensures lost { result ≡ Verdict.Lost → (verdict_of self.old.profile counts.now ≡ Lost)
+            × (block.new ≡ block.old) }
         ensures bits { (round : ℕ) → result ≡ Verdict.Kept round → AreBits block.new }
         ensures rounds { (round : ℕ) → result ≡ Verdict.Kept round → (1 ≤ round) × (round ≤ self.old.profile.rounds) }
-        ensures checked { (round : ℕ) → result ≡ Verdict.Kept round → IsFirstRight self.old.profile counts.now round block.new }
-        ensures cost { steps.new ≤ steps.old + self.old.profile.rounds * (3 * (codeword_symbols self.old.profile.order + code_steps self.old.profile.rate)) }
+        ensures checked { (round : ℕ) → result ≡ Verdict.Kept round
+            → IsFirstRight self.old.profile counts.now round block.new }
+        ensures cost { steps.new ≡ steps.old + rounds_made self.old.profile result * round_stages self.old.profile }
     {
         self.begin();
         for before in 0..self.profile.rounds() {

@@ -1,8 +1,8 @@
 -- One push of the unweaver.
-use Rattle.std.proofs.Common.{zero, suc, ◌≡◌, ◌≢◌, ◌<◌, ◌≤◌, ◌+◌, ◌-◌, ◌*◌, ◌/◌, ◌%◌, ℕ, List, [], ◌∷◌, ◌++◌, length, get_or, ap, sym, ◌∙◌, arith, inl, inr, length-append, drop, take, set, All, ◌^◌, eqb, if◌then◌else◌, true, false, min}
+use Rattle.std.proofs.Common.{zero, ◌≡◌, ◌≢◌, ◌<◌, ◌≤◌, ◌+◌, ◌-◌, ◌*◌, ◌/◌, ◌%◌, ℕ, List, [], ◌∷◌, ◌++◌, length, get_or, ap, sym, ◌∙◌, arith, inl, inr, length-append, drop, take, set, All, ◌^◌, eqb, if◌then◌else◌, true, false, min}
 use Rattle.std.proofs.lemmas.Bool.{cases_eq, cases_lt, eq-eqb, ne_eqb}
 use Rattle.std.proofs.lemmas.Nat.{mul-le, mod_below, div-add-mod', mod-mul-add}
-use Rattle.std.proofs.lemmas.List.{append-nil, get_or_push, get_or-set_same, get_or-set_other, length-set, length-drop, length_push, get_or_append_left, drop-append-le, drop-drop, take-append-le, drop_all, drop_at, take_all}
+use Rattle.std.proofs.lemmas.List.{append-nil, get_or_push, get_or-set_same, get_or-set_other, length-set, length-drop, length_push, get_or_append_left, drop-append-le, drop-drop, drop_all}
 use Rattle.std.proofs.lemmas.List.Elements.{All-append}
 use Rattle.circular_buffer.specs.Buffer.{Buffer, keep_last}
 use Rattle.std.proofs.Math.Nat.{zero-mul}
@@ -15,24 +15,7 @@ use Rattle.hpe_weave.specs.Turns.{turns, joined_on_row}
 use Rattle.hpe_weave.specs.Unweaving.{held_turns, gathered, HasUnwoven, IsUnweaving}
 use Rattle.hpe_weave.proofs.TurnLemmas.{turns-now, turns-more, turns-same, turn_below}
 use Rattle.hpe_weave.proofs.WeaverLemmas.{next_row}
-
--- the list that stands at place k of lists of m items
-part-joined : {X : Type 0} (n m k : ℕ) (f : ℕ → List X) → ((j : ℕ) → j < n → length (f j) ≡ m) → k < n → take m (drop (k * m) (joined n f)) ≡ f k
-unfolding joined
-part-joined zero m k f h b = absurd (omega arith)
-part-joined {X = X} (suc n) m k f h b =
-    let whole : length (joined n f) ≡ n * m = length-joined-each n m f (λ j c. h j (omega arith)) in
-    let last : length (f n) ≡ m = h n (omega arith) in
-    elim (cases_eq k n) [
-      | inl e ↦ rw e (ap (λ (l : List X). take m l) (drop_at (joined n f) (f n) (n * m) whole) ∙ take_all m (f n) (omega arith))
-      | inr ne ↦
-          let less : k < n = omega arith in
-          let room : (k + 1) * m ≤ n * m = mul-le (k + 1) m n m (omega arith) (omega arith) in
-          let fits : k * m + m ≤ length (joined n f) = omega arith in
-          ap (λ (l : List X). take m l) (drop-append-le (k * m) (joined n f) (f n) (omega arith))
-          ∙ take-append-le m (drop (k * m) (joined n f)) (f n) (let d = length-drop (k * m) (joined n f) in omega arith)
-          ∙ part-joined n m k f (λ j c. h j (omega arith)) less
-    ]
+use Rattle.hpe_base.proofs.Pieces.{part-joined}
 
 -- the numbers of another row stay
 joined_on_row-same : (rows : ℕ) (g : List (List ℕ)) (x : List ℕ) (i : ℕ) → i < rows → length g % rows ≢ i → joined_on_row rows (g ++ x ∷ []) i ≡ joined_on_row rows g i

@@ -47,9 +47,11 @@ fn empty(alloc: Global, capacity: usize) -> Result<HeapCircularBuffer<u16>, NoMe
 /// Takes the sums that waited longest out of a ring, where they are due, and puts new ones in.
 fn pass(ring: &mut HeapCircularBuffer<u16>, due: bool, counts: &[u16], out: &mut [u16])
     ensures items { ring.new
-        ≡ buffer (keep_last ring.old.capacity ((if due then drop (length out.old) ring.old.items else ring.old.items) ++ counts.now)) ring.old.capacity }
+        ≡ buffer (keep_last ring.old.capacity ((if due then drop (length out.old) ring.old.items else ring.old.items)
+        ++ counts.now)) ring.old.capacity }
     ensures out { out.new
-        ≡ (if due then take (length out.old) ring.old.items ++ drop (min (length out.old) (length ring.old.items)) out.old else out.old) }
+        ≡ (if due then take (length out.old) ring.old.items
+        ++ drop (min (length out.old) (length ring.old.items)) out.old else out.old) }
 {
     if due {
         ring.read_into(out);
@@ -89,7 +91,8 @@ impl Unweaver {
         requires out { length out.old ≡ positions self.old.parameters.order }
         ensures profile { self.new.parameters ≡ self.old.parameters }
         ensures stands { (pushed : _) → HasUnwoven self.old pushed → HasUnwoven self.new (pushed ++ counts.now ∷ []) }
-        ensures due { (pushed : _) → HasUnwoven self.old pushed → (IsTrue result ↔ (interleaver_depth self.old.parameters ≤ length pushed)) }
+        ensures due { (pushed : _) → HasUnwoven self.old pushed
+            → (IsTrue result ↔ (interleaver_depth self.old.parameters ≤ length pushed)) }
         ensures rows { (pushed : _) → HasUnwoven self.old pushed
             → deinterleaved_channel self.old.parameters [] (pushed ++ counts.now ∷ [])
             ≡ deinterleaved_channel self.old.parameters [] pushed ++ (if result then out.new ∷ [] else []) }
@@ -110,8 +113,10 @@ impl Unweaver {
     /// The number of slot sums that wait in the rings.
     pub fn held(&self) -> u64
         ensures rings { result ≡ waiting_in self.now }
-        ensures value { (pushed : _) → HasUnwoven self.now pushed → result ≡ held_after self.now.parameters (length pushed) }
-        ensures most { (pushed : _) → HasUnwoven self.now pushed → result ≤ positions self.now.parameters.order * interleaver_depth self.now.parameters / 2 }
+        ensures value { (pushed : _) → HasUnwoven self.now pushed
+            → result ≡ held_after self.now.parameters (length pushed) }
+        ensures most { (pushed : _) → HasUnwoven self.now pushed
+            → result ≤ positions self.now.parameters.order * interleaver_depth self.now.parameters / 2 }
     {
         let mut sums = 0;
         for ring in &self.rings {

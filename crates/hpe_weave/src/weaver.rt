@@ -85,7 +85,8 @@ impl Weaver {
         ensures profile { self.new.parameters ≡ self.old.parameters }
         ensures stands { (pushed : _) → HasWoven self.old pushed → HasWoven self.new (pushed ++ symbol ∷ []) }
         ensures answer { (pushed : _) → HasWoven self.old pushed
-            → interleaved_channel self.old.parameters (pushed ++ symbol ∷ []) ≡ interleaved_channel self.old.parameters pushed ++ result ∷ [] }
+            → interleaved_channel self.old.parameters (pushed ++ symbol ∷ [])
+            ≡ interleaved_channel self.old.parameters pushed ++ result ∷ [] }
     {
         let row = self.turn;
         self.turn = place_after(row, self.rings.len() + 1);

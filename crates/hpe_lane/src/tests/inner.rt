@@ -1,3 +1,4 @@
+//! The kernels of the inner trellis on numbers worked by hand.
 ghost use Rattle.std.specs.Prelude.{◌≡◌, ◌<◌};
 
 use crate::{best_by_parity, edge_scores, gray_scores, step_back, step_forward};

@@ -1,3 +1,4 @@
+//! The kernels of the outer trellis on numbers worked by hand.
 ghost use Rattle.std.specs.Prelude.{◌≡◌, ◌<◌};
 
 use crate::{outer_back, outer_forward};

@@ -2,6 +2,8 @@
 //! 37 i modulo 101 less 50, and count i is i modulo 101.
 ghost use Rattle.std.specs.Prelude.{◌≡◌, ℕ, ◌<◌, ◌≤◌, ◌^◌, true, length, slice_index};
 ghost use Rattle.hpe_base.specs.Sizes.{AllWithin};
+ghost use Rattle.hpe_base.specs.Parameters.{clamp};
+ghost use Rattle.hpe_lane.specs.Bounds.{edge_most};
 
 use crate::{
     best_by_parity, edge_scores, gray_scores, outer_back, outer_forward, plain, step_back,
@@ -25,7 +27,7 @@ fn number(i: usize) -> i32 {
 
 /// Whether each is a number that one code hands to the other.
 fn are_numbers(l: &[i32]) -> bool
-    ensures { result ≡ true → AllWithin 16383 l.now }
+    ensures { result ≡ true → AllWithin clamp l.now }
 {
     for number in l {
         if *number < -16_383 || 16_383 < *number {
@@ -37,7 +39,7 @@ fn are_numbers(l: &[i32]) -> bool
 
 /// Whether each is what an edge may score.
 fn are_edges(scores: &[i32]) -> bool
-    ensures { result ≡ true → AllWithin 147447 scores.now }
+    ensures { result ≡ true → AllWithin edge_most scores.now }
 {
     for score in scores {
         if *score < -147_447 || 147_447 < *score {
@@ -49,7 +51,7 @@ fn are_edges(scores: &[i32]) -> bool
 
 /// Whether each is a sum of counts.
 fn are_counts(counts: &[u16]) -> bool
-    ensures { result ≡ true → (i : ℕ) → slice_index counts.now i ≤ 16383 }
+    ensures { result ≡ true → (i : ℕ) → slice_index counts.now i ≤ clamp }
 {
     for count in counts {
         if *count > 16_383 {

@@ -1,5 +1,5 @@
 use Rattle.std.proofs.Common.{arith}
-use Rattle.hpe_code.proofs.Selected.{put-set, put-unset, room_for_one}
+use Rattle.hpe_code.proofs.PutBits.{put-set, put-unset, room_for_one}
 use Rattle.hpe_code.proofs.outer.put_selected.Goals as goal
 use Rattle.hpe_code.proofs.outer.put_selected.Goals.{then-flags-i, else-flags-i}
 

@@ -12,35 +12,35 @@ rest_none n e h = omega arith
 
 pub loop-k-init : goal.loop-k-init
 loop-k-init g c =
-    let m : ℕ = symbol_bits c.args.order in
-    let n : ℕ = c.args.n in
+    let m : ℕ = symbol_bits c.args.word.order in
+    let n : ℕ = c.args.word.symbols in
     let v : ℕ = length c.args.kept.now - 0 in
     let all : windows_end n v ≡ n = omega arith in
     record {
-      back = subst (λ (k : ℕ). BackRow m (windows_end n v) k c.args.counts.now c.args.l.now (pos 0 ∷ pos 0 ∷ [])) (rest_none n (windows_end n v) all) (BackRow-last m (windows_end n v) c.args.counts.now c.args.l.now);
-      soft = λ t i a b h. absurd {A = IsSoftAt c.args.order c.args.counts.now c.args.l.now (t * m + i) (number_at c.args.out.now (t * m + i))} (omega (arith, a, b, all));
+      back = subst (λ (k : ℕ). BackRow m (windows_end n v) k c.args.word.counts.now c.args.word.l.now (pos 0 ∷ pos 0 ∷ [])) (rest_none n (windows_end n v) all) (BackRow-last m (windows_end n v) c.args.word.counts.now c.args.word.l.now);
+      soft = λ t i a b h. absurd {A = IsSoftAt c.args.word.order c.args.word.counts.now c.args.word.l.now (t * m + i) (number_at c.args.out.now (t * m + i))} (omega (arith, a, b, all));
       cost = omega (arith, all);
     }
 
 pub window_back-next-requires-clause-later : goal.window_back-next-requires-clause-later
 window_back-next-requires-clause-later g c =
-    let m : ℕ = symbol_bits c.args.order in
-    let n : ℕ = c.args.n in
+    let m : ℕ = symbol_bits c.args.word.order in
+    let n : ℕ = c.args.word.symbols in
     let w : ℕ = length c.args.kept.now - 1 - c.loop-k.k in
     let row : List ℤ = to_z w32 c.loop-k.even-bits ∷ to_z w32 c.loop-k.odd-bits ∷ [] in
     let lw : w < windows n = omega arith in
     let e : windows_end n (length c.args.kept.now - c.loop-k.k) ≡ 64 * w + c.min-count.result = omega (arith, c.min-count.ensures) in
-    subst (λ (t : ℕ). BackRow m t (n - t) c.args.counts.now c.args.l.now row) e c.loop-k.invariant.back
+    subst (λ (t : ℕ). BackRow m t (n - t) c.args.word.counts.now c.args.word.l.now row) e c.loop-k.invariant.back
 
 pub loop-k-preserved : goal.loop-k-preserved
 loop-k-preserved g c =
-    let m : ℕ = symbol_bits c.args.order in
-    let n : ℕ = c.args.n in
+    let m : ℕ = symbol_bits c.args.word.order in
+    let n : ℕ = c.args.word.symbols in
     let k : ℕ = c.loop-k.k in
     let w : ℕ = length c.args.kept.now - 1 - k in
     let count : ℕ = c.min-count.result in
-    let counts : List ℕ = c.args.counts.now in
-    let l : List ℤ = c.args.l.now in
+    let counts : List ℕ = c.args.word.counts.now in
+    let l : List ℤ = c.args.word.l.now in
     let next : List ℤ = c.window_back-next.result in
     let lw : w < windows n = omega arith in
     let x : to_z w32 (of_z w32 (get_or next 0 (pos 0))) ≡ number_at next 0 = search rules in
@@ -53,7 +53,7 @@ loop-k-preserved g c =
       soft = λ t i after lt li.
           ⊎_elim
           (λ (h : t < 64 * w + count). c.window_back-next.ensures.soft t i (omega (arith, after, s)) h li)
-          (λ (h : 64 * w + count ≤ t). subst (IsSoftAt c.args.order counts l (t * m + i)) (sym (c.window_back-next.ensures.others t i h lt li)) (c.loop-k.invariant.soft t i (omega (arith, h, e)) lt li))
+          (λ (h : 64 * w + count ≤ t). subst (IsSoftAt c.args.word.order counts l (t * m + i)) (sym (c.window_back-next.ensures.others t i h lt li)) (c.loop-k.invariant.soft t i (omega (arith, h, e)) lt li))
           (cases_lt t (64 * w + count));
       cost = omega (arith, c.window_rows-next.ensures.cost, c.window_back-next.ensures.cost, c.loop-k.invariant.cost, e, s);
     }

@@ -7,7 +7,7 @@ use Rattle.hpe_inner.proofs.backward.backward_sweep.Given as goal
 
 abbrev pub invariant-loop-k : goal.invariant-loop-k
 invariant-loop-k g l = record {
-  back : BackRow (symbol_bits l.fn.order) (windows_end l.n (length l.kept - l.k)) (l.n - windows_end l.n (length l.kept - l.k)) l.counts l.l (l.even ∷ l.odd ∷ []);
-  soft : (t i : ℕ) → windows_end l.n (length l.kept - l.k) ≤ t → t < l.n → i < symbol_bits l.fn.order → IsSoftAt l.fn.order l.counts l.l (t * symbol_bits l.fn.order + i) (number_at l.out (t * symbol_bits l.fn.order + i));
-  cost : l.steps ≡ l.initial.steps + 2 * (l.n - windows_end l.n (length l.kept - l.k));
+  back : BackRow (symbol_bits l.fn.word.order) (windows_end l.fn.word.symbols (length l.kept - l.k)) (l.fn.word.symbols - windows_end l.fn.word.symbols (length l.kept - l.k)) l.fn.word.counts.now l.fn.word.l.now (l.even ∷ l.odd ∷ []);
+  soft : (t i : ℕ) → windows_end l.fn.word.symbols (length l.kept - l.k) ≤ t → t < l.fn.word.symbols → i < symbol_bits l.fn.word.order → IsSoftAt l.fn.word.order l.fn.word.counts.now l.fn.word.l.now (t * symbol_bits l.fn.word.order + i) (number_at l.out (t * symbol_bits l.fn.word.order + i));
+  cost : l.steps ≡ l.initial.steps + 2 * (l.fn.word.symbols - windows_end l.fn.word.symbols (length l.kept - l.k));
 }

@@ -2,7 +2,7 @@ use Rattle.std.proofs.Common.{◌≡◌, refl, ℕ, suc, ◌+◌, ◌-◌, ◌*�
 use Rattle.std.proofs.lemmas.Bool.{cases_lt}
 use Rattle.hpe_base.specs.Sizes.{number_at}
 use Rattle.hpe_inner.specs.Sweeps.{BackRow, IsSoftAt}
-use Rattle.hpe_inner.proofs.ForwardRow.{row_fits, below_cap, inner-within, cut_is, cut_long}
+use Rattle.hpe_inner.proofs.ForwardRow.{stage_is, row_fits, below_cap, inner-within, cut_is, cut_long}
 use Rattle.hpe_inner.proofs.BackwardRow.{BackRow-more, BackRow-same, back_fits, row_whole, soft_whole, soft-at, block_at, block_above, below_cap_back, stage_room}
 use Rattle.hpe_base.specs.Parameters.{symbol_bits}
 use Rattle.hpe_inner.proofs.backward.window_back.Goals as goal
@@ -16,75 +16,75 @@ same_end x = omega arith
 
 pub loop-k-init : goal.loop-k-init
 loop-k-init g c =
-    let m : ℕ = symbol_bits c.args.order in
-    let n : ℕ = c.args.n in
-    let e : ℕ = c.args.start + c.args.count in
+    let m : ℕ = symbol_bits c.args.word.order in
+    let n : ℕ = c.args.word.symbols in
+    let e : ℕ = c.args.span.start + c.args.span.count in
     let back : List ℤ = c.args.back in
-    let counts : List ℕ = c.args.counts.now in
-    let l : List ℤ = c.args.l.now in
+    let counts : List ℕ = c.args.word.counts.now in
+    let l : List ℤ = c.args.word.l.now in
     let x : to_z w32 (of_z w32 (get_or back 0 (pos 0))) ≡ number_at back 0 = search rules in
     let y : to_z w32 (of_z w32 (get_or back 1 (pos 0))) ≡ number_at back 1 = search rules in
     let now = subst (λ (k : ℕ). BackRow m e k counts l back) (same_rest (n - e)) c.requires.later in
     record {
       back = BackRow-same m (e - 0) (n - e + 0) counts l back _ _ x y (subst (λ (k : ℕ). BackRow m k (n - e + 0) counts l back) (same_end e) now);
-      soft = λ t i a b h. absurd {A = IsSoftAt c.args.order counts l (t * m + i) (number_at c.args.out.now (t * m + i))} (omega (arith, a, b));
+      soft = λ t i a b h. absurd {A = IsSoftAt c.args.word.order counts l (t * m + i) (number_at c.args.out.now (t * m + i))} (omega (arith, a, b));
       others = λ t i a b h. refl;
       cost = omega arith;
     }
 
 pub stage_back-next-requires-clause-fore : goal.stage_back-next-requires-clause-fore
 stage_back-next-requires-clause-fore g c =
-    let i : ℕ = c.args.count - 1 - c.loop-k.k in
-    let lt : i < c.args.count = omega arith in
-    let le : c.args.start + i ≤ c.args.n = omega arith in
-    row_fits ((symbol_bits c.args.order + 1) * 16383) (c.args.start + i) (get_or c.args.rows.now i []) (below_cap (c.args.start + i) c.args.n ((symbol_bits c.args.order + 1) * 16383) le c.requires.short) (c.requires.rows i lt).small
+    let i : ℕ = c.args.span.count - 1 - c.loop-k.k in
+    let lt : i < c.args.span.count = omega arith in
+    let le : c.args.span.start + i ≤ c.args.word.symbols = omega arith in
+    row_fits ((symbol_bits c.args.word.order + 1) * 16383) (c.args.span.start + i) (get_or c.args.rows.now i []) (below_cap (c.args.span.start + i) c.args.word.symbols ((symbol_bits c.args.word.order + 1) * 16383) le c.requires.word.short) (c.requires.rows i lt).small
 
 pub stage_back-next-requires-clause-back : goal.stage_back-next-requires-clause-back
 stage_back-next-requires-clause-back g c =
-    let n : ℕ = c.args.n in
+    let n : ℕ = c.args.word.symbols in
     let k : ℕ = c.loop-k.k in
-    let e : ℕ = c.args.start + c.args.count in
+    let e : ℕ = c.args.span.start + c.args.span.count in
     let all : e - k + (n - e + k) ≡ n = omega arith in
     let le : n - e + k ≤ n = omega arith in
-    let cap : (n - e + k) * ((symbol_bits c.args.order + 1) * 16383) ≤ 600000000 = below_cap_back (n - e + k) n ((symbol_bits c.args.order + 1) * 16383) le c.requires.short in
-    back_fits (symbol_bits c.args.order) (e - k) (n - e + k) n ((symbol_bits c.args.order + 1) * 16383) c.args.counts.now c.args.l.now (to_z w32 c.loop-k.even-bits ∷ to_z w32 c.loop-k.odd-bits ∷ []) all
-    (λ s p v h. inner-within (symbol_bits c.args.order) n s c.args.counts.now c.args.l.now c.requires.l h c.requires.most c.requires.within p v) cap c.loop-k.invariant.back
+    let cap : (n - e + k) * ((symbol_bits c.args.word.order + 1) * 16383) ≤ 600000000 = below_cap_back (n - e + k) n ((symbol_bits c.args.word.order + 1) * 16383) le c.requires.word.short in
+    back_fits (symbol_bits c.args.word.order) (e - k) (n - e + k) n ((symbol_bits c.args.word.order + 1) * 16383) c.args.word.counts.now c.args.word.l.now (to_z w32 c.loop-k.even-bits ∷ to_z w32 c.loop-k.odd-bits ∷ []) all
+    (λ s p v h. inner-within (symbol_bits c.args.word.order) n s c.args.word.counts.now c.args.word.l.now c.requires.word.l_long h c.requires.word.most c.requires.word.within p v) cap c.loop-k.invariant.back
 
 pub stage_back-next-requires-clause-from0 : goal.stage_back-next-requires-clause-from0
 stage_back-next-requires-clause-from0 g c =
-    stage_room c.args.order c.bits-m.result c.slots-size.result (c.args.start + (c.args.count - 1 - c.loop-k.k)) c.args.n c.args.l.now c.loop-k.from0 c.bits-m.ensures c.slots-size.ensures c.requires.l (omega arith) (search rules)
+    stage_room c.args.word.order c.bits-m.result c.slots-size.result (c.args.span.start + (c.args.span.count - 1 - c.loop-k.k)) c.args.word.symbols c.args.word.l.now c.loop-k.from0 c.bits-m.ensures c.slots-size.ensures c.requires.word.l_long (omega arith) (search rules)
 
 pub stage_back-next-requires-clause-from1 : goal.stage_back-next-requires-clause-from1
 stage_back-next-requires-clause-from1 g c =
-    stage_room c.args.order c.bits-m.result c.slots-size.result (c.args.start + (c.args.count - 1 - c.loop-k.k)) c.args.n c.args.l.now c.loop-k.from1 c.bits-m.ensures c.slots-size.ensures c.requires.l (omega arith) (search rules)
+    stage_room c.args.word.order c.bits-m.result c.slots-size.result (c.args.span.start + (c.args.span.count - 1 - c.loop-k.k)) c.args.word.symbols c.args.word.l.now c.loop-k.from1 c.bits-m.ensures c.slots-size.ensures c.requires.word.l_long (omega arith) (search rules)
 
 pub returns-clause-row : goal.returns-clause-row
 returns-clause-row g c =
-    let e : ℕ = c.args.start + c.args.count in
-    let a : e - c.loop-k.k ≡ c.args.start = omega arith in
-    let b : c.args.n - e + c.loop-k.k ≡ c.args.n - c.args.start = omega arith in
+    let e : ℕ = c.args.span.start + c.args.span.count in
+    let a : e - c.loop-k.k ≡ c.args.span.start = omega arith in
+    let b : c.args.word.symbols - e + c.loop-k.k ≡ c.args.word.symbols - c.args.span.start = omega arith in
     let row : List ℤ = to_z w32 c.loop-k.even-bits ∷ to_z w32 c.loop-k.odd-bits ∷ [] in
-    subst (λ (j : ℕ). BackRow (symbol_bits c.args.order) c.args.start j c.args.counts.now c.args.l.now row) b
-    (subst (λ (j : ℕ). BackRow (symbol_bits c.args.order) j (c.args.n - e + c.loop-k.k) c.args.counts.now c.args.l.now row) a c.loop-k.invariant.back)
+    subst (λ (j : ℕ). BackRow (symbol_bits c.args.word.order) c.args.span.start j c.args.word.counts.now c.args.word.l.now row) b
+    (subst (λ (j : ℕ). BackRow (symbol_bits c.args.word.order) j (c.args.word.symbols - e + c.loop-k.k) c.args.word.counts.now c.args.word.l.now row) a c.loop-k.invariant.back)
 
 pub loop-k-preserved : goal.loop-k-preserved
 loop-k-preserved g c =
-    let m : ℕ = symbol_bits c.args.order in
-    let n : ℕ = c.args.n in
+    let m : ℕ = symbol_bits c.args.word.order in
+    let n : ℕ = c.args.word.symbols in
     let k : ℕ = c.loop-k.k in
-    let e : ℕ = c.args.start + c.args.count in
-    let p : ℕ = c.args.count - 1 - k in
-    let t : ℕ = c.args.start + p in
+    let e : ℕ = c.args.span.start + c.args.span.count in
+    let p : ℕ = c.args.span.count - 1 - k in
+    let t : ℕ = c.args.span.start + p in
     let left : ℕ = n - e + k in
     let wide : ℕ = c.bits-m.result in
-    let counts : List ℕ = c.args.counts.now in
-    let l : List ℤ = c.args.l.now in
+    let counts : List ℕ = c.args.word.counts.now in
+    let l : List ℤ = c.args.word.l.now in
     let fore : List ℤ = get_or c.args.rows.now p [] in
     let back : List ℤ = to_z w32 c.loop-k.even-bits ∷ to_z w32 c.loop-k.odd-bits ∷ [] in
     let next : List ℤ = c.stage_back-next.result in
     let new : List ℤ = c.stage_back-next.new.out in
     let size : ℕ = c.slots-size.result in
-    let lp : p < c.args.count = omega arith in
+    let lp : p < c.args.span.count = omega arith in
     let lt : t < n = omega arith in
     let at : e - k ≡ t + 1 = omega arith in
     let to : t ≡ e - (k + 1) = omega arith in
@@ -93,8 +93,8 @@ loop-k-preserved g c =
     let x : to_z w32 (of_z w32 (get_or next 0 (pos 0))) ≡ number_at next 0 = search rules in
     let y : to_z w32 (of_z w32 (get_or next 1 (pos 0))) ≡ number_at next 1 = search rules in
     let later : BackRow m (t + 1) left counts l back = subst (λ (j : ℕ). BackRow m j left counts l back) at c.loop-k.invariant.back in
-    let row = row_whole m c.bits-m.result n t size counts l back next c.bits-m.ensures c.slots-size.ensures c.requires.l lt c.stage_back-next.ensures.row in
-    let soft = soft_whole m c.bits-m.result n t size counts l fore back new c.bits-m.ensures c.slots-size.ensures c.requires.l lt c.stage_back-next.ensures.soft in
+    let row = row_whole m c.bits-m.result n t size counts l back next c.bits-m.ensures c.slots-size.ensures c.requires.word.l_long lt c.stage_back-next.ensures.row in
+    let soft = soft_whole m c.bits-m.result n t size counts l fore back new c.bits-m.ensures c.slots-size.ensures c.requires.word.l_long lt c.stage_back-next.ensures.soft in
     let now : BackRow m t (suc left) counts l next = BackRow-more m t left counts l back next later row in
     let moved : BackRow m (e - (k + 1)) (n - e + (k + 1)) counts l next = subst (λ (j : ℕ). BackRow m j (n - e + (k + 1)) counts l next) to (subst (λ (j : ℕ). BackRow m t j counts l next) more now) in
     let lx : length c.loop-k.out ≡ n * m = omega arith in
@@ -104,14 +104,18 @@ loop-k-preserved g c =
       soft = λ u i after lu li.
           ⊎_elim
           (λ (h : t < u). let lu2 : u < n = omega arith in
-          subst (IsSoftAt c.args.order counts l (u * m + i)) (sym (block_above c.loop-k.out new t wide u m n i c.bits-m.ensures ly lx h lu2 li)) (c.loop-k.invariant.soft u i (omega arith) lu li))
+          subst (IsSoftAt c.args.word.order counts l (u * m + i)) (sym (block_above c.loop-k.out new t wide u m n i c.bits-m.ensures ly lx h lu2 li)) (c.loop-k.invariant.soft u i (omega arith) lu li))
           (λ (h : u ≤ t). let same : t ≡ u = omega arith in
-          subst (λ (j : ℕ). IsSoftAt c.args.order counts l (j * m + i) (number_at (put_mid (t * wide) ((t + 1) * wide - t * wide) c.loop-k.out new) (j * m + i))) same
-          (subst (IsSoftAt c.args.order counts l (t * m + i)) (sym (block_at c.loop-k.out new t wide m n i c.bits-m.ensures ly lx lt li))
-          (soft-at c.args.order n t i counts l c.requires.l lt li ((m + 1) * 16383)
-          (λ a p v h. inner-within m n a counts l c.requires.l h c.requires.most c.requires.within p v) c.requires.short left all fore back (c.requires.rows p lp) later (number_at new i) (soft i li))))
+          subst (λ (j : ℕ). IsSoftAt c.args.word.order counts l (j * m + i) (number_at (put_mid (t * wide) ((t + 1) * wide - t * wide) c.loop-k.out new) (j * m + i))) same
+          (subst (IsSoftAt c.args.word.order counts l (t * m + i)) (sym (block_at c.loop-k.out new t wide m n i c.bits-m.ensures ly lx lt li))
+          (soft-at c.args.word.order n t i counts l c.requires.word.l_long lt li ((m + 1) * 16383)
+          (λ a p v h. inner-within m n a counts l c.requires.word.l_long h c.requires.word.most c.requires.word.within p v) c.requires.word.short left all fore back (c.requires.rows p lp) later (number_at new i) (soft i li))))
           (cases_lt t u);
       others = λ u i after lu li. let h : t < u = omega arith in
           block_above c.loop-k.out new t wide u m n i c.bits-m.ensures ly lx h lu li ∙ c.loop-k.invariant.others u i after lu li;
       cost = omega (arith, c.stage_back-next.ensures.step, c.loop-k.invariant.cost);
     }
+
+pub stage_back-next-requires-clause-stage : goal.stage_back-next-requires-clause-stage
+stage_back-next-requires-clause-stage g c =
+    stage_is c.args.word.order c.bits-m.result c.slots-size.result (c.args.span.start + (c.args.span.count - 1 - c.loop-k.k)) c.args.word.symbols c.args.word.counts.now c.args.word.l.now c.bits-m.ensures c.slots-size.ensures c.requires.word (omega arith)

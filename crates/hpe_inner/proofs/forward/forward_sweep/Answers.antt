@@ -9,24 +9,24 @@ use Rattle.hpe_inner.proofs.forward.forward_sweep.Goals as goal
 
 pub loop-w-init : goal.loop-w-init
 loop-w-init g c = record {
-  now = subst (λ (t : ℕ). IsForwardRow (symbol_bits c.args.order) t c.args.counts.now c.args.l.now (pos 0 ∷ negsuc 1073741823 ∷ [])) (sym (no_window c.args.n)) (IsForwardRow-first (symbol_bits c.args.order) c.args.counts.now c.args.l.now);
-  kept = λ v h. absurd {A = IsForwardRow (symbol_bits c.args.order) (64 * v) c.args.counts.now c.args.l.now (get_or c.args.kept.now v [])} (omega (arith, h));
-  cost = let z = no_window c.args.n in omega (arith, z);
+  now = subst (λ (t : ℕ). IsForwardRow (symbol_bits c.args.word.order) t c.args.word.counts.now c.args.word.l.now (pos 0 ∷ negsuc 1073741823 ∷ [])) (sym (no_window c.args.word.symbols)) (IsForwardRow-first (symbol_bits c.args.word.order) c.args.word.counts.now c.args.word.l.now);
+  kept = λ v h. absurd {A = IsForwardRow (symbol_bits c.args.word.order) (64 * v) c.args.word.counts.now c.args.word.l.now (get_or c.args.kept.now v [])} (omega (arith, h));
+  cost = let z = no_window c.args.word.symbols in omega (arith, z);
 }
 
 pub window_rows-next-requires-clause-first : goal.window_rows-next-requires-clause-first
 window_rows-next-requires-clause-first g c =
-    let lw : c.loop-w.w < windows c.args.n = omega arith in
-    subst (λ (t : ℕ). IsForwardRow (symbol_bits c.args.order) t c.args.counts.now c.args.l.now (to_z w32 c.loop-w.even-bits ∷ to_z w32 c.loop-w.odd-bits ∷ [])) (window_start c.args.n c.loop-w.w lw) c.loop-w.invariant.now
+    let lw : c.loop-w.w < windows c.args.word.symbols = omega arith in
+    subst (λ (t : ℕ). IsForwardRow (symbol_bits c.args.word.order) t c.args.word.counts.now c.args.word.l.now (to_z w32 c.loop-w.even-bits ∷ to_z w32 c.loop-w.odd-bits ∷ [])) (window_start c.args.word.symbols c.loop-w.w lw) c.loop-w.invariant.now
 
 pub loop-w-preserved : goal.loop-w-preserved
 loop-w-preserved g c =
-    let m : ℕ = symbol_bits c.args.order in
-    let n : ℕ = c.args.n in
+    let m : ℕ = symbol_bits c.args.word.order in
+    let n : ℕ = c.args.word.symbols in
     let w : ℕ = c.loop-w.w in
     let count : ℕ = c.min-count.result in
-    let counts : List ℕ = c.args.counts.now in
-    let l : List ℤ = c.args.l.now in
+    let counts : List ℕ = c.args.word.counts.now in
+    let l : List ℤ = c.args.word.l.now in
     let kept : List (List ℤ) = c.loop-w.kept in
     let row : List ℤ = to_z w32 c.loop-w.even-bits ∷ to_z w32 c.loop-w.odd-bits ∷ [] in
     let next : List ℤ = c.window_rows-next.result in

@@ -6,7 +6,7 @@ use Rattle.hpe_inner.proofs.forward.forward_sweep.Given as goal
 
 abbrev pub invariant-loop-w : goal.invariant-loop-w
 invariant-loop-w g l = record {
-  now : IsForwardRow (symbol_bits l.fn.order) (windows_end l.n l.w) l.counts l.l (l.even ∷ l.odd ∷ []);
-  kept : (v : ℕ) → v < l.w → IsForwardRow (symbol_bits l.fn.order) (64 * v) l.counts l.l (get_or l.kept v []);
-  cost : l.steps ≡ l.initial.steps + windows_end l.n l.w;
+  now : IsForwardRow (symbol_bits l.fn.word.order) (windows_end l.fn.word.symbols l.w) l.fn.word.counts.now l.fn.word.l.now (l.even ∷ l.odd ∷ []);
+  kept : (v : ℕ) → v < l.w → IsForwardRow (symbol_bits l.fn.word.order) (64 * v) l.fn.word.counts.now l.fn.word.l.now (get_or l.kept v []);
+  cost : l.steps ≡ l.initial.steps + windows_end l.fn.word.symbols l.w;
 }

@@ -2,7 +2,7 @@ use Rattle.std.proofs.Common.{◌≡◌, ℕ, ◌+◌, ◌*◌, ◌<◌, ◌≤�
 use Rattle.hpe_base.specs.Sizes.{number_at}
 use Rattle.hpe_lane.proofs.WindowEnds.{rows-set}
 use Rattle.hpe_inner.specs.Sweeps.{IsForwardRow}
-use Rattle.hpe_inner.proofs.ForwardRow.{IsForwardRow-more, IsForwardRow-same, row_fits, below_cap, stage_best, inner-within, two_or_more}
+use Rattle.hpe_inner.proofs.ForwardRow.{stage_is, IsForwardRow-more, IsForwardRow-same, row_fits, below_cap, stage_best, inner-within, two_or_more}
 use Rattle.hpe_inner.proofs.BackwardRow.{stage_room}
 use Rattle.hpe_base.specs.Parameters.{symbol_bits}
 use Rattle.hpe_base.proofs.ParameterLemmas.{symbol_bits-low}
@@ -20,54 +20,58 @@ loop-i-init g c =
     let x : to_z w32 (of_z w32 (get_or row 0 (pos 0))) ≡ number_at row 0 = search rules in
     let y : to_z w32 (of_z w32 (get_or row 1 (pos 0))) ≡ number_at row 1 = search rules in
     record {
-      now = subst (λ (t : ℕ). IsForwardRow (symbol_bits c.args.order) t c.args.counts.now c.args.l.now (to_z w32 (of_z w32 (get_or row 0 (pos 0))) ∷ to_z w32 (of_z w32 (get_or row 1 (pos 0))) ∷ [])) (same_start c.args.start)
-          (IsForwardRow-same (symbol_bits c.args.order) c.args.start c.args.counts.now c.args.l.now row _ _ x y c.requires.first);
+      now = subst (λ (t : ℕ). IsForwardRow (symbol_bits c.args.word.order) t c.args.word.counts.now c.args.word.l.now (to_z w32 (of_z w32 (get_or row 0 (pos 0))) ∷ to_z w32 (of_z w32 (get_or row 1 (pos 0))) ∷ [])) (same_start c.args.span.start)
+          (IsForwardRow-same (symbol_bits c.args.word.order) c.args.span.start c.args.word.counts.now c.args.word.l.now row _ _ x y c.requires.first);
       rows = λ j h. absurd (omega (arith, h));
       cost = omega arith;
     }
 
 pub stage_forward-next-requires-clause-row : goal.stage_forward-next-requires-clause-row
 stage_forward-next-requires-clause-row g c =
-    let t : ℕ = c.args.start + c.loop-i.i in
-    let le : t ≤ c.args.n = omega arith in
-    row_fits ((symbol_bits c.args.order + 1) * 16383) t (to_z w32 c.loop-i.even-bits ∷ to_z w32 c.loop-i.odd-bits ∷ []) (below_cap t c.args.n ((symbol_bits c.args.order + 1) * 16383) le c.requires.short) c.loop-i.invariant.now.small
+    let t : ℕ = c.args.span.start + c.loop-i.i in
+    let le : t ≤ c.args.word.symbols = omega arith in
+    row_fits ((symbol_bits c.args.word.order + 1) * 16383) t (to_z w32 c.loop-i.even-bits ∷ to_z w32 c.loop-i.odd-bits ∷ []) (below_cap t c.args.word.symbols ((symbol_bits c.args.word.order + 1) * 16383) le c.requires.word.short) c.loop-i.invariant.now.small
 
 pub loop-i-preserved : goal.loop-i-preserved
 loop-i-preserved g c =
-    let m : ℕ = symbol_bits c.args.order in
-    let n : ℕ = c.args.n in
+    let m : ℕ = symbol_bits c.args.word.order in
+    let n : ℕ = c.args.word.symbols in
     let i : ℕ = c.loop-i.i in
-    let t : ℕ = c.args.start + i in
-    let counts : List ℕ = c.args.counts.now in
-    let l : List ℤ = c.args.l.now in
+    let t : ℕ = c.args.span.start + i in
+    let counts : List ℕ = c.args.word.counts.now in
+    let l : List ℤ = c.args.word.l.now in
     let rows : List (List ℤ) = c.loop-i.rows in
     let row : List ℤ = to_z w32 c.loop-i.even-bits ∷ to_z w32 c.loop-i.odd-bits ∷ [] in
     let next : List ℤ = c.stage_forward-next.result in
     let size : ℕ = c.slots-size.result in
     let lt : t < n = omega arith in
     let more : t + 1 ≤ n = omega arith in
-    let cap : (t + 1) * ((m + 1) * 16383) ≤ 1100000000 = below_cap (t + 1) n ((m + 1) * 16383) more c.requires.short in
+    let cap : (t + 1) * ((m + 1) * 16383) ≤ 1100000000 = below_cap (t + 1) n ((m + 1) * 16383) more c.requires.word.short in
     let room : i < length rows = omega (arith, c.loop-i.auto.rows, c.requires.rows) in
     let x : to_z w32 (of_z w32 (get_or next 0 (pos 0))) ≡ number_at next 0 = search rules in
     let y : to_z w32 (of_z w32 (get_or next 1 (pos 0))) ≡ number_at next 1 = search rules in
-    let new : IsForwardRow m (t + 1) counts l next = IsForwardRow-more m t counts l row next (two_or_more m (symbol_bits-low c.args.order)) cap
-    (inner-within m n t counts l c.requires.l lt c.requires.most c.requires.within) c.loop-i.invariant.now
-    (stage_best m c.bits-m.result n t size counts l row next c.bits-m.ensures c.slots-size.ensures c.requires.l lt c.stage_forward-next.ensures.row) in
+    let new : IsForwardRow m (t + 1) counts l next = IsForwardRow-more m t counts l row next (two_or_more m (symbol_bits-low c.args.word.order)) cap
+    (inner-within m n t counts l c.requires.word.l_long lt c.requires.word.most c.requires.word.within) c.loop-i.invariant.now
+    (stage_best m c.bits-m.result n t size counts l row next c.bits-m.ensures c.slots-size.ensures c.requires.word.l_long lt c.stage_forward-next.ensures.row) in
     record {
-      now = IsForwardRow-same m (c.args.start + (i + 1)) counts l next _ _ x y (subst (λ (j : ℕ). IsForwardRow m j counts l next) (next_start c.args.start i) new);
-      rows = rows-set (λ (j : ℕ) (here : List ℤ). IsForwardRow m (c.args.start + j) counts l here) i rows row room c.loop-i.invariant.rows c.loop-i.invariant.now;
+      now = IsForwardRow-same m (c.args.span.start + (i + 1)) counts l next _ _ x y (subst (λ (j : ℕ). IsForwardRow m j counts l next) (next_start c.args.span.start i) new);
+      rows = rows-set (λ (j : ℕ) (here : List ℤ). IsForwardRow m (c.args.span.start + j) counts l here) i rows row room c.loop-i.invariant.rows c.loop-i.invariant.now;
       cost = omega (arith, c.stage_forward-next.ensures.step, c.loop-i.invariant.cost);
     }
 
 pub stage_forward-next-requires-clause-from0 : goal.stage_forward-next-requires-clause-from0
 stage_forward-next-requires-clause-from0 g c =
-    stage_room c.args.order c.bits-m.result c.slots-size.result (c.args.start + c.loop-i.i) c.args.n c.args.l.now c.loop-i.from0 c.bits-m.ensures c.slots-size.ensures c.requires.l (omega arith) (search rules)
+    stage_room c.args.word.order c.bits-m.result c.slots-size.result (c.args.span.start + c.loop-i.i) c.args.word.symbols c.args.word.l.now c.loop-i.from0 c.bits-m.ensures c.slots-size.ensures c.requires.word.l_long (omega arith) (search rules)
 
 pub stage_forward-next-requires-clause-from1 : goal.stage_forward-next-requires-clause-from1
 stage_forward-next-requires-clause-from1 g c =
-    stage_room c.args.order c.bits-m.result c.slots-size.result (c.args.start + c.loop-i.i) c.args.n c.args.l.now c.loop-i.from1 c.bits-m.ensures c.slots-size.ensures c.requires.l (omega arith) (search rules)
+    stage_room c.args.word.order c.bits-m.result c.slots-size.result (c.args.span.start + c.loop-i.i) c.args.word.symbols c.args.word.l.now c.loop-i.from1 c.bits-m.ensures c.slots-size.ensures c.requires.word.l_long (omega arith) (search rules)
 
 pub returns-clause-next : goal.returns-clause-next
 returns-clause-next g c =
-    let e : c.loop-i.i ≡ c.args.count = omega arith in
-    subst (λ (i : ℕ). IsForwardRow (symbol_bits c.args.order) (c.args.start + i) c.args.counts.now c.args.l.now (to_z w32 c.loop-i.even-bits ∷ to_z w32 c.loop-i.odd-bits ∷ [])) e c.loop-i.invariant.now
+    let e : c.loop-i.i ≡ c.args.span.count = omega arith in
+    subst (λ (i : ℕ). IsForwardRow (symbol_bits c.args.word.order) (c.args.span.start + i) c.args.word.counts.now c.args.word.l.now (to_z w32 c.loop-i.even-bits ∷ to_z w32 c.loop-i.odd-bits ∷ [])) e c.loop-i.invariant.now
+
+pub stage_forward-next-requires-clause-stage : goal.stage_forward-next-requires-clause-stage
+stage_forward-next-requires-clause-stage g c =
+    stage_is c.args.word.order c.bits-m.result c.slots-size.result (c.args.span.start + c.loop-i.i) c.args.word.symbols c.args.word.counts.now c.args.word.l.now c.bits-m.ensures c.slots-size.ensures c.requires.word (omega arith)

@@ -3,10 +3,10 @@ use Rattle.hpe_lane.proofs.DifferingBits.{gray_scores_within, turned_edges}
 use Rattle.hpe_lane.proofs.gray.edge_scores.Goals as goal
 
 pub add_mirrored-requires-clause-scores : goal.add_mirrored-requires-clause-scores
-add_mirrored-requires-clause-scores c = gray_scores_within c.args.l.now c.gray_scores.new.out c.requires.few.1 (omega arith) c.requires.l c.gray_scores.ensures
+add_mirrored-requires-clause-scores c = gray_scores_within c.args.l.now c.gray_scores.new.out c.requires.stage.few.1 (omega arith) c.requires.stage.within c.gray_scores.ensures
 
 pub add_counts-requires-clause-scores : goal.add_counts-requires-clause-scores
-add_counts-requires-clause-scores c = gray_scores_within c.args.l.now c.gray_scores.new.out c.requires.few.1 (omega arith) c.requires.l c.gray_scores.ensures
+add_counts-requires-clause-scores c = gray_scores_within c.args.l.now c.gray_scores.new.out c.requires.stage.few.1 (omega arith) c.requires.stage.within c.gray_scores.ensures
 
 pub returns-clause-from1 : goal.returns-clause-from1
 returns-clause-from1 c = λ v h.

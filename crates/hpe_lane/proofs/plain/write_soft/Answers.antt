@@ -10,7 +10,7 @@ use Rattle.hpe_lane.proofs.Joint.{in_fours, soft_joint, joint_near}
 use Rattle.hpe_lane.proofs.plain.write_soft.Goals as goal
 
 pub join-requires-clause-fours : goal.join-requires-clause-fours
-join-requires-clause-fours c = ap (λ (n : ℕ). n % 4) c.requires.joint ∙ in_fours (length c.args.out.now) c.requires.few.0
+join-requires-clause-fours c = ap (λ (n : ℕ). n % 4) c.requires.joint ∙ in_fours (length c.args.out.now) c.requires.edges.few.0
 
 pub join-requires-clause-around0 : goal.join-requires-clause-around0
 join-requires-clause-around0 c =
@@ -55,7 +55,7 @@ fold_soft-requires-clause-near c =
     subst (λ (n : ℕ). Near 1200294894 n joint) (sym long)
     (joint_near m (omega arith) c.args.fore c.args.from0.now c.args.from1.now c.args.back (around_first c.args.fore c.args.back) (around_second c.args.fore c.args.back) joint (first c.args.fore c.args.back c.requires.fore c.requires.back) (second c.args.fore c.args.back c.requires.fore c.requires.back)
     (subst (λ (n : ℕ). (v : ℕ) → v < n → number_at joint v ≡ int_max (number_at (around_first c.args.fore c.args.back) (v % 2) +ℤ number_at c.args.from0.now v) (number_at (around_second c.args.fore c.args.back) (v % 2) +ℤ number_at c.args.from1.now (n - 1 - v))) all c.join.ensures)
-    c.requires.edges0 c.requires.edges1 c.requires.back)
+    c.requires.edges.small0 c.requires.edges.small1 c.requires.back)
 
 pub returns : goal.returns
 returns c = λ i h.
@@ -64,7 +64,7 @@ returns c = λ i h.
     let long : length joint ≡ 2 ^ m = omega arith in
     let all : length c.args.joint.now ≡ 2 ^ m = c.requires.joint in
     let z : ℤ = number_at c.fold_soft.new.out i in
-    subst (λ (n : ℕ). IsSoft (IsEdge n 2) (λ (e : ℕ × ℕ). input_bit m i e.0 e.1) (λ e. number_at c.args.fore e.0 +ℤ (edge_of c.args.from0.now c.args.from1.now e.0 e.1 +ℤ number_at c.args.back (e.1 % 2))) z) (sym c.requires.from0)
+    subst (λ (n : ℕ). IsSoft (IsEdge n 2) (λ (e : ℕ × ℕ). input_bit m i e.0 e.1) (λ e. number_at c.args.fore e.0 +ℤ (edge_of c.args.from0.now c.args.from1.now e.0 e.1 +ℤ number_at c.args.back (e.1 % 2))) z) (sym c.requires.edges.long0)
     (soft_joint m (omega arith) c.args.fore c.args.from0.now c.args.from1.now c.args.back (around_first c.args.fore c.args.back) (around_second c.args.fore c.args.back) joint (first c.args.fore c.args.back c.requires.fore c.requires.back) (second c.args.fore c.args.back c.requires.fore c.requires.back)
     (subst (λ (n : ℕ). (v : ℕ) → v < n → number_at joint v ≡ int_max (number_at (around_first c.args.fore c.args.back) (v % 2) +ℤ number_at c.args.from0.now v) (number_at (around_second c.args.fore c.args.back) (v % 2) +ℤ number_at c.args.from1.now (n - 1 - v))) all c.join.ensures)
     i z h (c.fold_soft.ensures i h))

@@ -7,7 +7,7 @@ use Rattle.hpe_lane.proofs.stage.step_back.Goals as goal
 pub returns-clause-row : goal.returns-clause-row
 returns-clause-row g c =
     let n : ℕ = length c.args.from0.now in
-    let same : length c.args.from1.now ≡ n = c.requires.from1 ∙ sym c.requires.from0 in
+    let same : length c.args.from1.now ≡ n = c.requires.edges.long1 ∙ sym c.requires.edges.long0 in
     let x : to_z w32 (of_z w32 c.best_after-first.result) ≡ c.best_after-first.result = search rules in
     let y : to_z w32 (of_z w32 c.best_after-second.result) ≡ c.best_after-second.result = search rules in
     row_pair c.args.from0.now c.args.from1.now c.args.back n _ _

@@ -6,8 +6,12 @@ use Rattle.hpe_profile.proofs.read.profile_in.Goals as goal
 
 pub returns-in-Ok-new : goal.returns-in-Ok-new
 returns-in-Ok-new c =
-    inl (sym (ap with_cause (sym (profile_alike c.fields_in-fields.result (fields_in (table_view c.args.table.now)) c.fields_in-fields.ensures) ∙ sym c.new.ensures ∙ c.in-Ok-new.is)))
+    let same =
+    profile_alike c.fields_in-fields.result (fields_in (table_view c.args.table.now)) c.fields_in-fields.ensures in
+    inl (sym (ap with_cause (sym same ∙ sym c.new.ensures ∙ c.in-Ok-new.is)))
 
 pub returns : goal.returns
 returns c =
-    inl (sym (ap with_cause (sym (profile_alike c.fields_in-fields.result (fields_in (table_view c.args.table.now)) c.fields_in-fields.ensures) ∙ sym c.new.ensures ∙ c.in-Err.is)))
+    let same =
+    profile_alike c.fields_in-fields.result (fields_in (table_view c.args.table.now)) c.fields_in-fields.ensures in
+    inl (sym (ap with_cause (sym same ∙ sym c.new.ensures ∙ c.in-Err.is)))

@@ -8,4 +8,8 @@ returns-in-Ok-clause-ok c = table_read c.args.text.now _ c.in-Ok.ensures.ok.0 c.
 
 pub returns-else-is_memory-clause-refused : goal.returns-else-is_memory-clause-refused
 returns-else-is_memory-clause-refused c =
-    inr (refl, table_refused c.args.text.now (c.in-Err.ensures.refused (λ memory. false≢true (sym c.if-is_memory.false ∙ c.is_memory.ensures.1 memory))))
+    inr (
+      refl,
+      table_refused c.args.text.now (c.in-Err.ensures.refused
+          (λ memory. false≢true (sym c.if-is_memory.false ∙ c.is_memory.ensures.1 memory))),
+    )

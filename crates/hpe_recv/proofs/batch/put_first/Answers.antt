@@ -1,9 +1,8 @@
 use Rattle.std.proofs.Common.{rules, ◌≡◌, ◌∙◌, ◌++◌, arith, refl, take, subst, ℕ}
 use Rattle.hpe_recv.specs.Delivering.{HasDelivered}
 use Rattle.hpe_recv.specs.Batching.{loaded_verdicts}
-use Rattle.hpe_recv.proofs.Batched.{delivers_none, delivers_more, puts_first, lines_first}
+use Rattle.hpe_recv.proofs.Batched.{delivers_none, delivers_more, puts_first, lines_first, put_at}
 use Rattle.hpe_recv.proofs.Caused.{cut_after}
-use Rattle.hpe_recv.proofs.Streamed.{err_same}
 use Rattle.hpe_recv.proofs.batch.put_first.Goals as goal
 
 pub loop-i-init : goal.loop-i-init
@@ -30,20 +29,17 @@ loop-i-preserved g c =
       report = record { same_faults = c.in-Ok.ensures.cause.1 ∙ i.report.same_faults; same_mark = c.deliver.ensures.report_stands.same_mark ∙ i.report.same_mark };
     }
 
-pub returns-in-Err-clause-cut : goal.returns-in-Err-clause-cut
-returns-in-Err-clause-cut g c = λ verdicts start begin h.
+pub returns-in-Err-clause-put : goal.returns-in-Err-clause-put
+returns-in-Err-clause-put g c = λ verdicts start begin h.
     let i = c.loop-i.invariant in
-    puts_first _ _ c.args.crew.now c.fetch-verdict.result c.fetch-verdict.new.block verdicts c.loop-i.i c.args.count start _ begin _ i.profile (omega (arith, c.loop-i-test.true)) c.requires.loaded c.fetch-verdict.ensures.verdict
-    (c.in-Err.ensures.cut (verdicts ++ take c.loop-i.i (loaded_verdicts c.args.crew.now)) start begin (i.delivers verdicts start begin h))
+    let before = verdicts ++ take c.loop-i.i (loaded_verdicts c.args.crew.now) in
+    put_at _ _ c.in-Err.cut
+    (puts_first _ _ c.args.crew.now c.fetch-verdict.result c.fetch-verdict.new.block verdicts c.loop-i.i c.args.count start _ begin _ i.profile (omega (arith, c.loop-i-test.true)) c.requires.loaded c.fetch-verdict.ensures.verdict
+    (c.in-Err.ensures.cut before start begin (i.delivers verdicts start begin h)))
+    (λ e. lines_first c.args.crew.now verdicts c.loop-i.i c.args.count begin _ (omega (arith, c.loop-i-test.true)) (c.in-Err.ensures.lines before start begin (i.delivers verdicts start begin h) e))
 
-pub returns-in-Err-clause-lines : goal.returns-in-Err-clause-lines
-returns-in-Err-clause-lines g c = λ verdicts start begin h e.
-    let i = c.loop-i.invariant in
-    lines_first c.args.crew.now verdicts c.loop-i.i c.args.count begin _ (omega (arith, c.loop-i-test.true))
-    (c.in-Err.ensures.lines (verdicts ++ take c.loop-i.i (loaded_verdicts c.args.crew.now)) start begin (i.delivers verdicts start begin h) (err_same _ _ e))
-
-pub returns-clause-ok : goal.returns-clause-ok
-returns-clause-ok g c =
+pub returns-clause-put : goal.returns-clause-put
+returns-clause-put g c =
     let i = c.loop-i.invariant in
     let e : c.loop-i.i ≡ c.args.count = omega arith in
     λ verdicts start begin h. subst (λ (k : ℕ). HasDelivered c.loop-i.outlet (verdicts ++ take k (loaded_verdicts c.args.crew.now)) start (g.O.Sink.written c.loop-i.frames) begin (g.R.Sink.written c.loop-i.report)) e (i.delivers verdicts start begin h)

@@ -14,12 +14,12 @@ pub returns-clause-ok : goal.returns-clause-ok
 returns-clause-ok g c = λ start come.
     let full : finder_room c.args.finder.now.parameters ≤ length c.args.finder.now.counts = omega (arith, c.if-room-gt0.false, c.room.ensures.value) in
     on_ok_both c.count_rest.result
-    (λ t fits. (t.0, ended_all c.args.finder.now.parameters c.args.finder.now.counts c.count_rest.new.intake start _ t.0 full t.1 (omega (arith, fits, c.count_rest.ensures.limit)) t.2))
+    (λ t fits. (t.0, ended_all c.args.finder.now.parameters c.args.finder.now.counts c.count_rest.new.intake start _ t.0 full t.1 (omega (arith, fits, c.count_rest.ensures.intake.same_limit)) t.2))
     (c.count_rest.ensures.come start c.args.finder.now.counts come) c.count_rest.ensures.within
 
 pub returns-clause-cut : goal.returns-clause-cut
 returns-clause-cut g c = λ start come.
     let full : finder_room c.args.finder.now.parameters ≤ length c.args.finder.now.counts = omega (arith, c.if-room-gt0.false, c.room.ensures.value) in
     on_err_weaker c.count_rest.result
-    (λ t. (t.0, broken_all c.args.finder.now.parameters c.args.finder.now.counts c.count_rest.new.intake start _ t.0 full t.1 (omega (arith, c.count_rest.ensures.at_most, c.count_rest.ensures.limit))))
+    (λ t. (t.0, broken_all c.args.finder.now.parameters c.args.finder.now.counts c.count_rest.new.intake start _ t.0 full t.1 (omega (arith, c.count_rest.ensures.intake.most, c.count_rest.ensures.intake.same_limit))))
     (c.count_rest.ensures.stopped start c.args.finder.now.counts come)

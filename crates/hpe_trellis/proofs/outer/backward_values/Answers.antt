@@ -19,8 +19,8 @@ SoftFrom-none columns l n e info code h long =
 
 pub loop-k-init : goal.loop-k-init
 loop-k-init g c =
-    let columns : List (List Bool) = c.args.columns.now in
-    let l : List ℤ = c.args.l.now in
+    let columns : List (List Bool) = c.args.word.columns.now in
+    let l : List ℤ = c.args.word.l.now in
     let n : ℕ = length c.args.info.now + 2 in
     let v : ℕ = length c.args.kept.now - 0 in
     let all : windows_end n v ≡ n = omega arith in
@@ -36,7 +36,7 @@ window_rows-requires-clause-inside g c =
     let w : ℕ = length c.args.kept.now - 1 - c.loop-k.k in
     let lw : w < windows n = omega arith in
     let e : 64 * w + c.min-count.result ≤ n = omega (arith, c.min-count.ensures) in
-    let m = before-mono c.args.columns.now n (64 * w + c.min-count.result) e in
+    let m = before-mono c.args.word.columns.now n (64 * w + c.min-count.result) e in
     omega (arith, m, c.requires.l)
 
 pub window_values-before-requires-clause-later : goal.window_values-before-requires-clause-later
@@ -46,24 +46,24 @@ window_values-before-requires-clause-later g c =
     let long : length c.args.info.now ≡ length c.loop-k.info = omega arith in
     let lw : w < windows n = omega arith in
     let e : windows_end n (length c.args.kept.now - c.loop-k.k) ≡ 64 * w + c.min-count.result = omega (arith, c.min-count.ensures) in
-    subst (λ (i : ℕ). OuterBack (64 * w + c.min-count.result) (i + 2 - (64 * w + c.min-count.result)) c.args.columns.now c.args.l.now c.loop-k.back) long
-    (subst (λ (t : ℕ). OuterBack t (n - t) c.args.columns.now c.args.l.now c.loop-k.back) e c.loop-k.invariant.back)
+    subst (λ (i : ℕ). OuterBack (64 * w + c.min-count.result) (i + 2 - (64 * w + c.min-count.result)) c.args.word.columns.now c.args.word.l.now c.loop-k.back) long
+    (subst (λ (t : ℕ). OuterBack t (n - t) c.args.word.columns.now c.args.word.l.now c.loop-k.back) e c.loop-k.invariant.back)
 
 pub window_values-before-requires-clause-soft : goal.window_values-before-requires-clause-soft
 window_values-before-requires-clause-soft g c =
-    let columns : List (List Bool) = c.args.columns.now in
+    let columns : List (List Bool) = c.args.word.columns.now in
     let n : ℕ = length c.args.info.now + 2 in
     let w : ℕ = length c.args.kept.now - 1 - c.loop-k.k in
     let long : length c.args.info.now ≡ length c.loop-k.info = omega arith in
     let lw : w < windows n = omega arith in
     let e : windows_end n (length c.args.kept.now - c.loop-k.k) ≡ 64 * w + c.min-count.result = omega (arith, c.min-count.ensures) in
-    subst (λ (i : ℕ). SoftFrom columns c.args.l.now i (64 * w + c.min-count.result) (kept_before columns (64 * w + c.min-count.result)) c.loop-k.info c.loop-k.code) long
-    (subst (λ (t : ℕ). SoftFrom columns c.args.l.now (length c.args.info.now) t (kept_before columns t) c.loop-k.info c.loop-k.code) e c.loop-k.invariant.soft)
+    subst (λ (i : ℕ). SoftFrom columns c.args.word.l.now i (64 * w + c.min-count.result) (kept_before columns (64 * w + c.min-count.result)) c.loop-k.info c.loop-k.code) long
+    (subst (λ (t : ℕ). SoftFrom columns c.args.word.l.now (length c.args.info.now) t (kept_before columns t) c.loop-k.info c.loop-k.code) e c.loop-k.invariant.soft)
 
 pub loop-k-preserved : goal.loop-k-preserved
 loop-k-preserved g c =
-    let columns : List (List Bool) = c.args.columns.now in
-    let l : List ℤ = c.args.l.now in
+    let columns : List (List Bool) = c.args.word.columns.now in
+    let l : List ℤ = c.args.word.l.now in
     let n : ℕ = length c.args.info.now + 2 in
     let k : ℕ = c.loop-k.k in
     let w : ℕ = length c.args.kept.now - 1 - k in
@@ -82,6 +82,6 @@ loop-k-preserved g c =
 
 pub returns-clause-soft : goal.returns-clause-soft
 returns-clause-soft g c =
-    let columns : List (List Bool) = c.args.columns.now in
+    let columns : List (List Bool) = c.args.word.columns.now in
     let z : windows_end (length c.args.info.now + 2) (length c.args.kept.now - c.loop-k.k) ≡ 0 = omega arith in
-    subst (λ (t : ℕ). SoftFrom columns c.args.l.now (length c.args.info.now) t (kept_before columns t) c.loop-k.info c.loop-k.code) z c.loop-k.invariant.soft
+    subst (λ (t : ℕ). SoftFrom columns c.args.word.l.now (length c.args.info.now) t (kept_before columns t) c.loop-k.info c.loop-k.code) z c.loop-k.invariant.soft

@@ -5,7 +5,7 @@ use Rattle.hpe_trellis.proofs.outer.backward_values.Given as goal
 
 abbrev pub invariant-loop-k : goal.invariant-loop-k
 invariant-loop-k g l = record {
-  back : OuterBack (windows_end l.n (length l.kept - l.k)) (l.n - windows_end l.n (length l.kept - l.k)) l.columns l.l l.back;
-  soft : SoftFrom l.columns l.l (length l.fn.info) (windows_end l.n (length l.kept - l.k)) (kept_before l.columns (windows_end l.n (length l.kept - l.k))) l.info l.code;
+  back : OuterBack (windows_end l.n (length l.kept - l.k)) (l.n - windows_end l.n (length l.kept - l.k)) l.fn.word.columns.now l.fn.word.l.now l.back;
+  soft : SoftFrom l.fn.word.columns.now l.fn.word.l.now (length l.fn.info) (windows_end l.n (length l.kept - l.k)) (kept_before l.fn.word.columns.now (windows_end l.n (length l.kept - l.k))) l.info l.code;
   cost : l.steps ≡ l.initial.steps + 2 * (l.n - windows_end l.n (length l.kept - l.k));
 }

@@ -9,21 +9,21 @@ pub loop-w-init : goal.loop-w-init
 loop-w-init g c =
     let z = no_window c.args.n in
     record {
-      now = subst (λ (t : ℕ). OuterFore t c.args.columns.now c.args.l.now first_row) (sym z) (OuterFore-first c.args.columns.now c.args.l.now);
-      kept = λ v h. absurd {A = OuterFore (64 * v) c.args.columns.now c.args.l.now (get_or c.args.kept.now v [])} (omega (arith, h));
+      now = subst (λ (t : ℕ). OuterFore t c.args.word.columns.now c.args.word.l.now first_row) (sym z) (OuterFore-first c.args.word.columns.now c.args.word.l.now);
+      kept = λ v h. absurd {A = OuterFore (64 * v) c.args.word.columns.now c.args.word.l.now (get_or c.args.kept.now v [])} (omega (arith, h));
       cost = omega (arith, z);
     }
 
 pub window_rows-next-requires-clause-first : goal.window_rows-next-requires-clause-first
 window_rows-next-requires-clause-first g c =
     let lw : c.loop-w.w < windows c.args.n = omega arith in
-    subst (λ (t : ℕ). OuterFore t c.args.columns.now c.args.l.now c.loop-w.row) (window_start c.args.n c.loop-w.w lw) c.loop-w.invariant.now
+    subst (λ (t : ℕ). OuterFore t c.args.word.columns.now c.args.word.l.now c.loop-w.row) (window_start c.args.n c.loop-w.w lw) c.loop-w.invariant.now
 
 pub window_rows-next-requires-clause-inside : goal.window_rows-next-requires-clause-inside
 window_rows-next-requires-clause-inside g c =
     let lw : c.loop-w.w < windows c.args.n = omega arith in
     let e : 64 * c.loop-w.w + c.min-count.result ≤ c.args.n = omega (arith, c.min-count.ensures) in
-    let m = before-mono c.args.columns.now c.args.n (64 * c.loop-w.w + c.min-count.result) e in
+    let m = before-mono c.args.word.columns.now c.args.n (64 * c.loop-w.w + c.min-count.result) e in
     omega (arith, m, c.requires.l)
 
 pub loop-w-preserved : goal.loop-w-preserved
@@ -31,8 +31,8 @@ loop-w-preserved g c =
     let n : ℕ = c.args.n in
     let w : ℕ = c.loop-w.w in
     let count : ℕ = c.min-count.result in
-    let columns : List (List Bool) = c.args.columns.now in
-    let l : List ℤ = c.args.l.now in
+    let columns : List (List Bool) = c.args.word.columns.now in
+    let l : List ℤ = c.args.word.l.now in
     let row : List ℤ = c.loop-w.row in
     let next : List ℤ = c.window_rows-next.result in
     let lw : w < windows n = omega arith in

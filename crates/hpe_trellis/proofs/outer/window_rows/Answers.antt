@@ -10,12 +10,12 @@ use Rattle.hpe_trellis.proofs.outer.window_rows.Goals as goal
 
 pub loop-i-init : goal.loop-i-init
 loop-i-init g c =
-    let columns : List (List Bool) = c.args.columns.now in
+    let columns : List (List Bool) = c.args.word.columns.now in
     let s : ℕ = c.args.start in
     let e : s ≡ s + 0 = same_start s in
     record {
-      now = subst (λ (t : ℕ). OuterFore t columns c.args.l.now c.args.row) e c.requires.first;
-      rows = λ j h. absurd {A = OuterFore (s + j) columns c.args.l.now (get_or c.args.rows.now j [])} (omega (arith, h));
+      now = subst (λ (t : ℕ). OuterFore t columns c.args.word.l.now c.args.row) e c.requires.first;
+      rows = λ j h. absurd {A = OuterFore (s + j) columns c.args.word.l.now (get_or c.args.rows.now j [])} (omega (arith, h));
       place = ap (λ (t : ℕ). t % length columns) e;
       at = kept_total columns s c.kept_length-at.result c.kept_length-at.ensures ∙ ap (kept_before columns) e;
       cost = omega arith;
@@ -23,9 +23,9 @@ loop-i-init g c =
 
 pub step_numbers-numbers-requires-clause-room : goal.step_numbers-numbers-requires-clause-room
 step_numbers-numbers-requires-clause-room g c =
-    let columns : List (List Bool) = c.args.columns.now in
+    let columns : List (List Bool) = c.args.word.columns.now in
     let t : ℕ = c.args.start + c.loop-i.i in
-    let three : length (get_or columns c.loop-i.place []) ≡ 3 = search rules in
+    let three : length (get_or columns c.loop-i.place []) ≡ 3 = c.requires.word.three c.loop-i.place (search rules) in
     let w : flags_set (get_or columns c.loop-i.place []) ≡ width columns t = width_at columns t c.loop-i.place c.loop-i.invariant.place three in
     let m : kept_before columns (t + 1) ≤ kept_before columns (c.args.start + c.args.count) = before-mono columns (c.args.start + c.args.count) (t + 1) (omega arith) in
     let n = before_next columns t in
@@ -33,32 +33,32 @@ step_numbers-numbers-requires-clause-room g c =
 
 pub outer_forward-next-requires-clause-row : goal.outer_forward-next-requires-clause-row
 outer_forward-next-requires-clause-row g c = λ q h.
-    let columns : List (List Bool) = c.args.columns.now in
+    let columns : List (List Bool) = c.args.word.columns.now in
     let t : ℕ = c.args.start + c.loop-i.i in
     let m : kept_before columns t ≤ kept_before columns (c.args.start + c.args.count) = before-mono columns (c.args.start + c.args.count) t (omega arith) in
-    fore_fits columns c.args.l.now c.requires.within t q (number_at c.loop-i.row q) (omega (arith, c.requires.inside, c.requires.short, m)) h (c.loop-i.invariant.now.top q h)
+    fore_fits columns c.args.word.l.now c.requires.word.within t q (number_at c.loop-i.row q) (omega (arith, c.requires.inside, c.requires.word.short, m)) h (c.loop-i.invariant.now.top q h)
 
 pub overflow_add-at : goal.overflow_add-at
 overflow_add-at g c =
-    let columns : List (List Bool) = c.args.columns.now in
+    let columns : List (List Bool) = c.args.word.columns.now in
     let t : ℕ = c.args.start + c.loop-i.i in
-    let three : length (get_or columns c.loop-i.place []) ≡ 3 = search rules in
+    let three : length (get_or columns c.loop-i.place []) ≡ 3 = c.requires.word.three c.loop-i.place (search rules) in
     let w : flags_set (get_or columns c.loop-i.place []) ≡ width columns t = width_at columns t c.loop-i.place c.loop-i.invariant.place three in
     let m : kept_before columns (t + 1) ≤ kept_before columns (c.args.start + c.args.count) = before-mono columns (c.args.start + c.args.count) (t + 1) (omega arith) in
     let n = before_next columns t in
-    let small : c.loop-i.at + c.flags_set-at.result ≤ 15120 = omega (arith, c.loop-i.invariant.at, c.requires.inside, c.requires.short, c.flags_set-at.ensures.value, w, m, n) in
+    let small : c.loop-i.at + c.flags_set-at.result ≤ 15120 = omega (arith, c.loop-i.invariant.at, c.requires.inside, c.requires.word.short, c.flags_set-at.ensures.value, w, m, n) in
     search rules
 
 pub loop-i-preserved : goal.loop-i-preserved
 loop-i-preserved g c =
     let i : ℕ = c.loop-i.i in
     let t : ℕ = c.args.start + i in
-    let columns : List (List Bool) = c.args.columns.now in
-    let l : List ℤ = c.args.l.now in
+    let columns : List (List Bool) = c.args.word.columns.now in
+    let l : List ℤ = c.args.word.l.now in
     let next : List ℤ = c.outer_forward-next.result in
     let r : List ℤ = c.step_numbers-numbers.result in
     let room : i < length c.loop-i.rows = omega (arith, c.loop-i.auto.rows, c.requires.rows) in
-    let three : length (get_or columns c.loop-i.place []) ≡ 3 = search rules in
+    let three : length (get_or columns c.loop-i.place []) ≡ 3 = c.requires.word.three c.loop-i.place (search rules) in
     let w : flags_set (get_or columns c.loop-i.place []) ≡ width columns t = width_at columns t c.loop-i.place c.loop-i.invariant.place three in
     let same : StepIs columns l t r = step_is columns l t c.loop-i.place c.loop-i.at r c.loop-i.invariant.place c.loop-i.invariant.at c.step_numbers-numbers.ensures.edge in
     let e : t + 1 ≡ c.args.start + (i + 1) = next_start c.args.start i in
@@ -74,4 +74,4 @@ loop-i-preserved g c =
 pub returns-clause-next : goal.returns-clause-next
 returns-clause-next g c =
     let e : c.loop-i.i ≡ c.args.count = omega arith in
-    subst (λ (i : ℕ). OuterFore (c.args.start + i) c.args.columns.now c.args.l.now c.loop-i.row) e c.loop-i.invariant.now
+    subst (λ (i : ℕ). OuterFore (c.args.start + i) c.args.word.columns.now c.args.word.l.now c.loop-i.row) e c.loop-i.invariant.now

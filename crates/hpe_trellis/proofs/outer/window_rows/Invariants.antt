@@ -4,9 +4,9 @@ use Rattle.hpe_trellis.proofs.outer.window_rows.Given as goal
 
 abbrev pub invariant-loop-i : goal.invariant-loop-i
 invariant-loop-i g l = record {
-  now : OuterFore (l.start + l.i) l.columns l.l l.row;
-  rows : (j : ℕ) → j < l.i → OuterFore (l.start + j) l.columns l.l (get_or l.rows j []);
-  place : l.place ≡ (l.start + l.i) % length l.columns;
-  at : l.at ≡ kept_before l.columns (l.start + l.i);
+  now : OuterFore (l.start + l.i) l.fn.word.columns.now l.fn.word.l.now l.row;
+  rows : (j : ℕ) → j < l.i → OuterFore (l.start + j) l.fn.word.columns.now l.fn.word.l.now (get_or l.rows j []);
+  place : l.place ≡ (l.start + l.i) % length l.fn.word.columns.now;
+  at : l.at ≡ kept_before l.fn.word.columns.now (l.start + l.i);
   cost : l.steps ≡ l.initial.steps + l.i;
 }

@@ -5,9 +5,9 @@ use Rattle.hpe_base.specs.Rounds.{Verdict}
 use Rattle.hpe_crew.specs.Crewing.{Crewing}
 use Rattle.hpe_recv.specs.BatchView.{batching}
 use Rattle.hpe_recv.specs.Batching.{HasBatched, loaded_verdicts, late_count}
-use Rattle.hpe_recv.specs.Delivering.{HasDelivered}
-use Rattle.hpe_recv.proofs.Batched.{finished_none, whole_is, HasSomeLines}
-use Rattle.hpe_recv.proofs.CourseSettled.{puts_same}
+use Rattle.hpe_recv.specs.Delivering.{HasDelivered, PutsLines}
+use Rattle.hpe_recv.proofs.Batched.{finished_none, whole_is, all_of, front_of, lines_of}
+use Rattle.hpe_recv.proofs.Collected.{puts_same}
 use Rattle.hpe_recv.proofs.batch.Batch.finish.Goals.{After-saturating_sub-count, After-put_first-done}
 use Rattle.hpe_recv.proofs.batch.Batch.finish.Goals as goal
 
@@ -30,16 +30,16 @@ returns-clause-ok g c = rw (← c.self.view_is) (λ all whole start begin h.
     let d = (goal.at.returns-clause-ok g c).After-put_first-done in
     on_ok_weaker c.put_first-done.result (λ s.
     subst (λ (vs : List Verdict). HasDelivered c.put_first-done.new.outlet vs start (g.O.Sink.written c.put_first-done.new.frames) begin (g.R.Sink.written c.put_first-done.new.report)) (whole_are g d all whole start _ begin _ h (count_is g (goal.at.returns-clause-ok g c).After-saturating_sub-count)) s)
-    (c.put_first-done.ensures.ok h.put start begin h.delivered))
+    (all_of _ _ _ c.put_first-done.result (c.put_first-done.ensures.put h.put start begin h.delivered)))
 
 pub returns-clause-cut : goal.returns-clause-cut
 returns-clause-cut g c = rw (← c.self.view_is) (λ all whole start begin h.
     let d = (goal.at.returns-clause-cut g c).After-put_first-done in
     on_err_weaker c.put_first-done.result (puts_same _ _ _ _ start _ begin _ c.self.invariant.outlet (whole_are g d all whole start _ begin _ h (count_is g (goal.at.returns-clause-cut g c).After-saturating_sub-count)))
-    (c.put_first-done.ensures.cut h.put start begin h.delivered))
+    (front_of _ _ _ c.put_first-done.result (c.put_first-done.ensures.put h.put start begin h.delivered)))
 
 pub returns-clause-lines : goal.returns-clause-lines
 returns-clause-lines g c = rw (← c.self.view_is) (λ all whole start begin h e.
     let d = (goal.at.returns-clause-lines g c).After-put_first-done in
-    subst (λ (vs : List Verdict). HasSomeLines vs begin (g.R.Sink.written c.put_first-done.new.report)) (whole_are g d all whole start _ begin _ h (count_is g (goal.at.returns-clause-lines g c).After-saturating_sub-count))
-    (c.put_first-done.ensures.lines h.put start begin h.delivered e))
+    subst (λ (vs : List Verdict). PutsLines vs begin (g.R.Sink.written c.put_first-done.new.report)) (whole_are g d all whole start _ begin _ h (count_is g (goal.at.returns-clause-lines g c).After-saturating_sub-count))
+    (lines_of _ _ _ c.put_first-done.result (c.put_first-done.ensures.put h.put start begin h.delivered) e))

@@ -7,7 +7,7 @@ use Rattle.hpe_recv.specs.BatchView.{batching}
 use Rattle.hpe_recv.specs.Batching.{HasBatched}
 use Rattle.hpe_recv.specs.Delivering.{HasDelivered}
 use Rattle.hpe_recv.proofs.Batched.{all_aside, settled_aside, settled_none, lines_of_front}
-use Rattle.hpe_recv.proofs.CourseSettled.{puts_same}
+use Rattle.hpe_recv.proofs.Collected.{puts_same}
 use Rattle.hpe_recv.proofs.batch.Batch.settle.Goals.{After-deliver}
 use Rattle.hpe_recv.proofs.batch.Batch.settle.Goals as goal
 

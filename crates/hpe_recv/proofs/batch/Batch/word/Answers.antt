@@ -7,10 +7,9 @@ use Rattle.hpe_crew.specs.Crewing.{Crewing}
 use Rattle.hpe_crew.specs.Answering.{verdict_with}
 use Rattle.hpe_recv.specs.BatchView.{batching}
 use Rattle.hpe_recv.specs.Batching.{HasBatched, loaded_verdicts}
-use Rattle.hpe_recv.specs.Delivering.{HasDelivered}
-use Rattle.hpe_recv.proofs.Batched.{word_loaded, before_last, word_aside, HasSomeLines}
-use Rattle.hpe_recv.proofs.CourseSettled.{puts_same}
-use Rattle.hpe_recv.proofs.Streamed.{err_same}
+use Rattle.hpe_recv.specs.Delivering.{HasDelivered, PutsLines}
+use Rattle.hpe_recv.proofs.Batched.{word_loaded, before_last, word_aside, front_at, lines_at}
+use Rattle.hpe_recv.proofs.Collected.{puts_same}
 use Rattle.hpe_recv.proofs.batch.Batch.word.Goals.{After-put_first}
 use Rattle.hpe_recv.proofs.batch.Batch.word.Goals as goal
 
@@ -39,12 +38,12 @@ all_are g c all whole f f' r r' h early =
 
 pub returns-in-Err-clause-cut : goal.returns-in-Err-clause-cut
 returns-in-Err-clause-cut g c = rw (← c.self.view_is) (λ all whole start begin h early.
-    puts_same _ _ _ _ start _ begin _ c.self.invariant.outlet (all_are g (goal.at.returns-in-Err-clause-cut g c).After-put_first all whole start _ begin _ h early) (c.in-Err.ensures.cut h.put start begin h.delivered))
+    puts_same _ _ _ _ start _ begin _ c.self.invariant.outlet (all_are g (goal.at.returns-in-Err-clause-cut g c).After-put_first all whole start _ begin _ h early) (front_at _ _ c.in-Err.cut (c.in-Err.ensures.put h.put start begin h.delivered)))
 
 pub returns-in-Err-clause-lines : goal.returns-in-Err-clause-lines
 returns-in-Err-clause-lines g c = rw (← c.self.view_is) (λ all whole start begin h early e.
-    subst (λ (vs : List Verdict). HasSomeLines vs begin (g.R.Sink.written c.put_first.new.report)) (all_are g (goal.at.returns-in-Err-clause-lines g c).After-put_first all whole start _ begin _ h early)
-    (c.in-Err.ensures.lines h.put start begin h.delivered (err_same _ _ e)))
+    subst (λ (vs : List Verdict). PutsLines vs begin (g.R.Sink.written c.put_first.new.report)) (all_are g (goal.at.returns-in-Err-clause-lines g c).After-put_first all whole start _ begin _ h early)
+    (lines_at _ _ c.in-Err.cut (c.in-Err.ensures.put h.put start begin h.delivered) e))
 
 pub returns-clause-ok : goal.returns-clause-ok
 returns-clause-ok g c = rw (← c.self.view_is) (λ all whole start begin h early.
@@ -56,7 +55,7 @@ returns-clause-ok g c = rw (← c.self.view_is) (λ all whole start begin h earl
     (all ++ verdict_of c.self.inside.crew.parameters c.args.sums.now ∷ []) all start (g.O.Sink.written c.put_first.new.frames) begin (g.R.Sink.written c.put_first.new.report)) (sym crew)
     (word_aside (batching c.self.inside) c.put_first.new.outlet c.fetch.result c.args.sums.now (with_items first c.fetch.new.block).items true all start _ begin _
     (subst (λ (vs : List Verdict). HasDelivered c.put_first.new.outlet vs start (g.O.Sink.written c.put_first.new.frames) begin (g.R.Sink.written c.put_first.new.report)) (all_are g d all whole start _ begin _ h early)
-    (c.in-Ok.ensures.ok h.put start begin h.delivered))
+    (c.in-Ok.ensures.put h.put start begin h.delivered))
     (c.put_first.ensures.profile ∙ c.self.invariant.outlet)
     (ap (λ (b : List ℕ). verdict_with c.fetch.result b) block ∙ c.fetch.ensures.verdict
     ∙ ap (λ (k : Crewing). verdict_of k.parameters (slice_index_or k.loads (c.loaded-last.result - 1) [])) (crew_is g d)

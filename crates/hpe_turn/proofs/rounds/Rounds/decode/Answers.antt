@@ -1,4 +1,4 @@
-use Rattle.std.proofs.Common.{◌≡◌, ◌<◌, ◌+◌, ◌∙◌, arith, rules, ℕ, ℤ, List, Bool, true, false, take, refl, sym, subst, ap, ap₂}
+use Rattle.std.proofs.Common.{◌≡◌, ◌<◌, ◌+◌, ◌*◌, ◌∙◌, arith, rules, ℕ, ℤ, List, Bool, true, false, take, refl, sym, subst, ap, ap₂}
 use Rattle.hpe_base.specs.Sizes.{AllWithin}
 use Rattle.hpe_base.specs.Parameters.{Parameters, codeword_bits, codeword_symbols, code_steps, block_bits}
 use Rattle.hpe_base.specs.Randomiser.{randomised}
@@ -6,10 +6,11 @@ use Rattle.hpe_base.specs.Rounds.{outer_numbers, hard_bits, next_numbers, is_rig
 use Rattle.hpe_turn.specs.declared.verdict.Verdict.TheVariants.{Kept}
 use Rattle.std.specs.Option.{IsSome}
 use Rattle.hpe_turn.specs.FirstRight.{IsFirstRight}
-use Rattle.hpe_turn.proofs.Clamping.{zeros_within}
 use Rattle.hpe_turn.proofs.FirstRight.{HasGone-none, HasGone-more, HasGone-right, HasGone-all, first_right}
+use Rattle.hpe_turn.specs.Stages.{round_stages}
 use Rattle.hpe_turn.proofs.Stages.{one_round, rounds_so_far}
 use Rattle.hpe_turn.proofs.rounds.Rounds.decode.Goals as goal
+use Rattle.hpe_base.proofs.Scaling.{zeros_within}
 
 not_true : (b : Bool) → (b ≡ true → ⊥) → b ≡ false
 not_true true h = absurd (h refl)
@@ -89,13 +90,18 @@ returns-then-is_some-clause-cost g c =
     ap (λ (q : Parameters). code_steps q.rate) (c.inner_half.ensures.profile ∙ c.loop-before.invariant.profile) in
     let inner : codeword_symbols c.loop-before.self.profile.order ≡ codeword_symbols p.order =
     ap (λ (q : Parameters). codeword_symbols q.order) c.loop-before.invariant.profile in
-    let more : c.loop-before.before < p.rounds = omega (arith, c.rounds-before-end.ensures.value ∙ ap (λ (q : Parameters). q.rounds) c.begin.ensures.profile) in
     omega (
       arith,
       c.inner_half.ensures.cost,
       c.outer_half.ensures.cost,
-      one_round c.loop-before.before p.rounds c.args.steps.now c.loop-before.steps (codeword_symbols p.order) (code_steps p.rate) more c.loop-before.invariant.cost,
+      rounds_so_far c.loop-before.before c.args.steps.now c.loop-before.steps (codeword_symbols p.order) (code_steps p.rate) c.loop-before.invariant.cost,
     )
+
+pub returns-clause-cost : goal.returns-clause-cost
+returns-clause-cost g c =
+    let all : c.loop-before.before ≡ c.args.self.now.profile.rounds =
+    omega (arith, c.rounds-before-end.ensures.value ∙ ap (λ (q : Parameters). q.rounds) c.begin.ensures.profile) in
+    c.loop-before.invariant.cost ∙ ap (λ (n : ℕ). c.args.steps.now + n * round_stages c.args.self.now.profile) all
 
 pub loop-before-preserved : goal.loop-before-preserved
 loop-before-preserved g c =

@@ -1,6 +1,6 @@
-use Rattle.std.proofs.Common.{◌≡◌, ◌+◌, ◌*◌, ◌≤◌}
+use Rattle.std.proofs.Common.{◌≡◌, ◌+◌, ◌*◌}
 use Rattle.hpe_base.specs.Sizes.{AllWithin}
-use Rattle.hpe_base.specs.Parameters.{codeword_symbols, code_steps}
+use Rattle.hpe_turn.specs.Stages.{round_stages}
 use Rattle.hpe_turn.proofs.FirstRight.{HasGone}
 use Rattle.hpe_turn.proofs.rounds.Rounds.decode.Given as goal
 
@@ -10,5 +10,5 @@ invariant-loop-before g l = record {
   gone : HasGone l.fn.self.profile l.counts l.before l.self.inner_numbers.items;
   small : AllWithin 16383 l.self.inner_numbers.items;
   block : l.block ≡ l.fn.block;
-  cost : l.steps ≤ l.fn.steps + l.before * (3 * (codeword_symbols l.fn.self.profile.order + code_steps l.fn.self.profile.rate));
+  cost : l.steps ≡ l.fn.steps + l.before * round_stages l.fn.self.profile;
 }

@@ -1,0 +1,5 @@
+pub mod SymbolRows
+pub mod Parts
+pub mod PeriodEnds
+pub mod Smallness
+pub mod WholePeriods

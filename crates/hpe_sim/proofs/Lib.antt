@@ -1,0 +1,9 @@
+mod Words
+mod Octets
+mod Fits
+mod Sizes
+mod Bounds
+mod Sent
+mod Made
+mod Received
+mod Outcomes

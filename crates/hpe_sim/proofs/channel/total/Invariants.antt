@@ -1,0 +1,5 @@
+use Rattle.std.proofs.Common.{◌≡◌, ◌≤◌, ◌*◌, sum, take}
+use Rattle.hpe_sim.proofs.channel.total.Given as goal
+
+abbrev pub invariant-loop-count : goal.invariant-loop-count
+invariant-loop-count l = record { value : l.total ≡ sum (take l.count-index l.counts); most : l.total ≤ 255 * l.count-index }
