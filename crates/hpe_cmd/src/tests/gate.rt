@@ -33,20 +33,39 @@ impl Gate for Meeting {
     }
 }
 
+/// A gate at which no job was.
+fn empty_gate() -> Meeting {
+    Meeting {
+        here: [AtomicBool::new(false), AtomicBool::new(false)],
+        seen: [AtomicBool::new(false), AtomicBool::new(false)],
+    }
+}
+
 #[test]
 fn two_words_are_decoded_side_by_side(rt: HostRuntime) -> Result<(), Fail> {
     let five = "frames 30 words 5 slots 379600\n";
     let octets = zeros(rt.alloc(), 3_000)?;
     let slots = written(&rt, &sound(ENCODE), &octets, Status::Done, five)?;
-    let gate = Meeting {
-        here: [AtomicBool::new(false), AtomicBool::new(false)],
-        seen: [AtomicBool::new(false), AtomicBool::new(false)],
-    };
+    let gate = empty_gate();
     let two = sound(&["hpe", "decode", "--workers", "2"]);
     let kept =
         "word 0 kept 1\nword 1 kept 1\nword 2 kept 1\nword 3 kept 1\nword 4 kept 1\nwords 5 kept 5 lost 0 frames 30 lead 0 tail 0\n";
     let frames = written_past(&rt, &gate, &two, &slots, Status::Done, kept)?;
     assert_eq!(rt; frames.as_slice(), octets.as_slice());
+    assert!(rt; gate.seen[0].load(Ordering::SeqCst) && gate.seen[1].load(Ordering::SeqCst));
+    Ok(())
+}
+
+#[test]
+fn two_words_of_a_simulation_are_decoded_side_by_side(rt: HostRuntime) -> Result<(), Fail> {
+    let gate = empty_gate();
+    let two = sound(&["hpe", "simulate", "--frames", "30", "--workers", "2"]);
+    let kept =
+        "word 0 kept 1\nword 1 kept 1\nword 2 kept 1\nword 3 kept 1\nword 4 kept 1\nwords 5 kept 5 lost 0 frames 30 lead 0 tail 0\n";
+    let told = written_past(&rt, &gate, &two, &[], Status::Done, kept)?;
+    // each of the 5 x 3796 pulses counts
+    let line = "seed 0 frames 30 words 5 kept 5 lost 0 back 30 same 1 slots 379600 counts 18980\n";
+    assert!(rt; told.as_slice() == line.as_bytes());
     assert!(rt; gate.seen[0].load(Ordering::SeqCst) && gate.seen[1].load(Ordering::SeqCst));
     Ok(())
 }
