@@ -1,10 +1,10 @@
--- What is delivered has room in the blocks of the words.
-use Rattle.std.proofs.Common.{◌≡◌, ◌≤◌, ◌<◌, ◌+◌, ◌-◌, ◌*◌, ◌/◌, ◌%◌, ◌∙◌, ◌++◌, ◌∷◌, [], ℕ, zero, suc, List, length, take, drop, map, arith, ap, sym, subst, Bool, true, false, if◌then◌else◌, inl, inr, append-nil, length-append}
+-- The frames that are decoded have room in the blocks of as many words as there are whole periods.
+use Rattle.std.proofs.Common.{◌≡◌, ◌≤◌, ◌<◌, ◌+◌, ◌-◌, ◌*◌, ◌/◌, ◌∙◌, ◌++◌, ◌∷◌, [], ℕ, zero, suc, List, length, take, drop, map, arith, ap, sym, subst, Bool, true, false, if◌then◌else◌, inl, inr, append-nil, length-append}
 use Rattle.std.specs.Prelude.{slice_range}
 use Rattle.std.specs.List.{flat_map}
 use Rattle.std.proofs.lemmas.Bool.{cases_lt}
-use Rattle.std.proofs.lemmas.Nat.{mul-le, div-add-mod', mod_below}
-use Rattle.std.proofs.Math.Nat.{div-mul-le_self, div-le_of_le-mul}
+use Rattle.std.proofs.lemmas.Nat.{mul-le}
+use Rattle.std.proofs.Math.Nat.{div-mul-le_self, div-le_of_le-mul, le-div_iff_mul-le}
 use Rattle.std.proofs.lemmas.List.{length-drop, length-take, length-take-le, length-replicate}
 use Rattle.std.proofs.lemmas.List.Concat.{flat_map-append}
 use Rattle.hpe_base.specs.Parameters.{Parameters, block_bits, period_slots, codeword_symbols, interleaver_depth}
@@ -114,19 +114,6 @@ length-placed : (p : Parameters) (rows : List (List ℕ)) → length (deinterlea
 unfolding deinterleaved_channel
 length-placed p rows = length-tabulate _ _
 
--- a number that fits so often is no greater than the quotient
-pub quotient : (n d q : ℕ) → 0 < d → q * d ≤ n → q ≤ n / d
-quotient n d q some h =
-    let r = div-add-mod' n d in
-    let low : n % d < d = mod_below n d some in
-    elim (cases_lt (n / d) q) [
-      | inl less ↦
-          let up : (n / d + 1) * d ≤ q * d = mul-le (n / d + 1) d q d (omega arith) (omega arith) in
-          let two : (n / d + 1) * d ≡ n / d * d + d = grind arith in
-          absurd (omega (arith, r))
-      | inr near ↦ near
-    ]
-
 words_few : (p : Parameters) (counts : List ℕ) (o : Offset) → 0 < codeword_symbols p.order → 0 < period_slots p → length (words_at p counts o) ≤ length counts / period_slots p
 words_few p counts Short some slots = omega arith
 words_few p counts Dark some slots = omega arith
@@ -138,7 +125,7 @@ words_few p counts (At offset best) some slots =
     let groups : length (words_from p counts offset) ≡ (g * s - interleaver_depth p) / s = length-tabulate _ _ ∙ ap (λ n. n / s) placed in
     let few : (g * s - interleaver_depth p) / s ≤ g = div-le_of_le-mul s (let e : s * g ≡ g * s = grind arith in omega arith) in
     let back : g * period_slots p ≤ length counts - offset = div-mul-le_self (length counts - offset) (period_slots p) in
-    let less : g ≤ length counts / period_slots p = quotient (length counts) (period_slots p) g slots (omega arith) in
+    let less : g ≤ length counts / period_slots p = (le-div_iff_mul-le slots).1 (omega arith) in
     omega arith
 
 -- the octets of the frames, in bits, have room in the blocks of so many words as there are periods
