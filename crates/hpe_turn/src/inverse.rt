@@ -39,8 +39,9 @@ impl InverseTable {
         requires into { length into.old ≡ codeword_bits }
         ensures { (e : ℕ) → e < codeword_bits → number_at into.new e ≡ number_at from.now (pi_inverse e) }
     {
+        let places = self.places.as_slice();
         for (e, number) in into.iter_mut().enumerate() {
-            *number = from[self.places[e] as usize];
+            *number = from[places[e] as usize];
         }
     }
 }
