@@ -19,6 +19,13 @@ use crate::join::join;
 use hpe_base::Steps;
 use std::sync::ledger::Ledger;
 
+/// One stage: the counts and the numbers of its symbol.
+#[derive(Clone, Copy)]
+pub struct Stage<'a> {
+    pub counts: &'a [u16],
+    pub l: &'a [i32],
+}
+
 /// At place `b`, the greatest of `row[s] + from_s[v]` over both `s` and all `v` that end in `b`.
 #[inline(always)]
 pub fn step_forward<L: Ledger>(
