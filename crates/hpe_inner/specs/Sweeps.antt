@@ -1,6 +1,6 @@
 -- The inner code as a trellis, and what sweeps over it hold. The state is the last bit that the accumulator gave, and
 -- the input of a stage is its symbol, of m bits.
-use Rattle.std.specs.Prelude.{if◌then◌else◌, ◌==◌, ◌≡◌, ℕ, ◌+◌, ◌-◌, ◌*◌, ◌/◌, ◌%◌, ◌^◌, ◌<◌, ◌≤◌, ℤ, pos, negsuc, ◌+ℤ◌, ◌-ℤ◌, ◌≤ℤ◌, Some, List, [], length, slice_index, slice_index_or, take, drop}
+use Rattle.std.specs.Prelude.{if◌then◌else◌, ◌==◌, ◌≡◌, ℕ, ◌+◌, ◌-◌, ◌*◌, ◌/◌, ◌%◌, ◌^◌, ◌<◌, ◌≤◌, ℤ, pos, negsuc, ◌-ℤ◌, ◌≤ℤ◌, Some, List, [], length, slice_index, slice_index_or, take, drop}
 use Rattle.hpe_base.proofs.Trellis.{Fore, Back}
 use Rattle.hpe_base.specs.Sizes.{number_at, Within, AllWithin}
 use Rattle.hpe_base.specs.GreatestScores.{inner_top}

@@ -4,7 +4,7 @@
 //! either state. The windows are taken from the last to the first: the rows of a window are made again from the row
 //! that the forward sweep kept, and then each stage is met from its end. Between the two rows of a stage, the best edge
 //! with an input bit of 1 less the best with a 0 gives the soft value of the bit.
-ghost use Rattle.std.specs.Prelude.{◌≡◌, ℕ, ◌+◌, ◌-◌, ◌*◌, ◌<◌, ◌≤◌, ◌^◌, length};
+ghost use Rattle.std.specs.Prelude.{◌≡◌, ◌+◌, ◌-◌, ◌*◌, ◌<◌, ◌≤◌, ◌^◌, length};
 ghost use Rattle.hpe_base.specs.Parameters.{symbol_bits};
 ghost use Rattle.hpe_lane.specs.Bounds.{IsRow, row_most};
 ghost use Rattle.hpe_lane.specs.Stages.{AreStageSoft, IsBackStep, IsStage};
@@ -130,5 +130,5 @@ fn stage_back<L: Ledger, const BITS: usize>(
     ensures step { steps.new ≡ steps.old + 1 }
 {
     edge_scores(stage.counts, stage.l, from0, from1);
-    step_back(between.fore, from0, from1, between.back, out, steps)
+    step_back::<L, BITS>(between.fore, from0, from1, between.back, out, steps)
 }

@@ -6,7 +6,7 @@
 //!
 //! Only the row before each window of 64 stages is kept. The backward sweep makes the rows of a window again when it
 //! comes there: a third visit of each stage, for a row in 64 of the memory.
-ghost use Rattle.std.specs.Prelude.{◌≡◌, ℕ, ◌+◌, ◌<◌, ◌≤◌, ◌^◌, length};
+ghost use Rattle.std.specs.Prelude.{◌≡◌, ◌+◌, ◌<◌, ◌≤◌, ◌^◌, length};
 ghost use Rattle.hpe_base.specs.Parameters.{symbol_bits};
 ghost use Rattle.hpe_lane.specs.Bounds.{IsRow};
 ghost use Rattle.hpe_lane.specs.Parts.{entry_most, stage_edge};

@@ -3,21 +3,21 @@ use Rattle.std.proofs.Common.{◌≡◌, ℕ, zero, suc, ◌+◌, ◌-◌, ◌*�
 use Rattle.std.specs.Prelude.{nat_eq}
 use Rattle.std.specs.Int.{int_max}
 use Rattle.std.proofs.lemmas.Bool.{cases_lt}
-use Rattle.std.proofs.lemmas.Int.{ints, clamps}
+use Rattle.std.proofs.lemmas.Int.{ints}
 use Rattle.std.proofs.lemmas.Nat.{div-mul-add}
 use Rattle.std.proofs.Math.Nat.{two-pow-succ}
 use Rattle.std.proofs.Math.Pow.{pow_mono, pow_pos}
 use Rattle.hpe_base.specs.Greatest.{IsGreatest}
 use Rattle.hpe_base.specs.Sizes.{number_at, Within, AllWithin}
 use Rattle.hpe_base.specs.Trellis.{IsEdge}
-use Rattle.hpe_base.proofs.Greatest.{IsGreatest-carry, IsGreatest-join, IsGreatest-single, IsGreatest-widen, max_left, max_right, max_cases, le_trans}
+use Rattle.hpe_base.proofs.Greatest.{IsGreatest-carry, IsGreatest-join, IsGreatest-single, IsGreatest-widen, max_left, max_right, max_cases}
 use Rattle.hpe_lane.specs.Edges.{gray_from}
-use Rattle.hpe_lane.specs.Parts.{AreBestEdges, AreParts, stage_edge, part_edge, part_sum}
+use Rattle.hpe_lane.specs.Parts.{AreBestEdges, AreParts, stage_edge}
 use Rattle.hpe_lane.specs.Stages.{IsStage}
 use Rattle.hpe_lane.proofs.Sums.{IsGreatest-within}
 use Rattle.hpe_lane.proofs.DifferingBits.{gray-within}
 use Rattle.hpe_lane.proofs.EndBests.{InLane8, IsEnd, ends_join}
-use Rattle.hpe_lane.proofs.GrayParts.{eights_of, even_or_odd}
+use Rattle.hpe_lane.proofs.GrayParts.{eights_of}
 use Rattle.hpe_lane.proofs.OneLane.{ends_of}
 use Rattle.hpe_lane.proofs.Sizes.{wider}
 
@@ -28,7 +28,7 @@ first_lane f i z h e =
     subst (IsGreatest (InLane8 1 i) f) (sym e)
     (IsGreatest-widen (λ v e. (omega arith, omega arith)) (λ v p. omega (arith, p.0, p.1)) (IsGreatest-single f i))
 
-pub parts_are : (counts : List ℕ) (blocks eight : List ℤ) (m : ℕ) → 5 ≤ m → length counts ≡ 2 ^ m → length blocks ≡ 2 ^ (m - 3) → length eight ≡ 8
+pub parts_are : (counts : List ℕ) (blocks eight : List ℤ) (m : ℕ) → 4 ≤ m → length counts ≡ 2 ^ m → length blocks ≡ 2 ^ (m - 3) → length eight ≡ 8
     → ((v : ℕ) → get_or counts v 0 ≤ 16383) → AllWithin 81915 blocks → AllWithin 49149 eight → AreParts counts blocks eight
 parts_are counts blocks eight m h lc lb le most small small_eight = record {
   long = let e = eights_of m (omega arith) in omega arith;
@@ -62,7 +62,7 @@ halves_of m h =
     let d : 2 ^ (m - 1) ≡ 2 ^ (m - 2) + 2 ^ (m - 2) = ap (λ (k : ℕ). 2 ^ k) (sym f) ∙ two-pow-succ (m - 2) in
     (ap (λ (k : ℕ). 2 ^ k) (sym e) ∙ two-pow-succ (m - 1), omega arith)
 
-pub eighth : (m n : ℕ) → 5 ≤ m → m ≤ 8 → n ≡ 2 ^ m → (n / 8 ≡ 2 ^ (m - 3)) × (n / 8 ≤ 32)
+pub eighth : (m n : ℕ) → 4 ≤ m → m ≤ 8 → n ≡ 2 ^ m → (n / 8 ≡ 2 ^ (m - 3)) × (n / 8 ≤ 32)
 eighth m n h l e =
     let a = eights_of m (omega arith) in
     let p : 2 ^ (m - 3) ≤ 2 ^ 5 = pow_mono {i = m - 3} {j = 5} (omega arith) in

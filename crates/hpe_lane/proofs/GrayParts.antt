@@ -1,5 +1,5 @@
 -- What the numbers of a stage score, in two parts.
-use Rattle.std.proofs.Common.{◌≡◌, ℕ, zero, suc, ◌+◌, ◌-◌, ◌*◌, ◌/◌, ◌%◌, ◌^◌, ◌<◌, ◌≤◌, ⊎_elim, sym, ◌∙◌, ap, ap₂, subst, refl, arith, ℤ, pos, ◌+ℤ◌, List, [], ◌∷◌, ◌++◌, length, length-append, take, drop, cond, get_or}
+use Rattle.std.proofs.Common.{◌≡◌, ℕ, zero, suc, ◌+◌, ◌-◌, ◌*◌, ◌/◌, ◌%◌, ◌^◌, ◌<◌, ◌≤◌, ⊎_elim, sym, ◌∙◌, ap, ap₂, subst, arith, ℤ, pos, ◌+ℤ◌, List, [], ◌∷◌, ◌++◌, length, length-append, take, drop, cond}
 use Rattle.std.specs.Prelude.{nat_eq}
 use Rattle.std.specs.Int.{bit_at}
 use Rattle.std.proofs.lemmas.Bool.{cases_lt}
@@ -12,7 +12,7 @@ use Rattle.std.proofs.Math.Nat.{div-div-eq-div-mul}
 use Rattle.std.proofs.Math.Seq.{take-length}
 use Rattle.hpe_base.specs.Sizes.{number_at, Within, AllWithin}
 use Rattle.hpe_lane.specs.Edges.{gray_from}
-use Rattle.hpe_lane.specs.Parts.{turned_lane, part_sum, part_edge}
+use Rattle.hpe_lane.specs.Parts.{turned_lane, part_sum}
 use Rattle.hpe_lane.proofs.Blocks.{take_long}
 use Rattle.hpe_lane.proofs.DifferingBits.{gray-low, gray-turned, gray-within, list_within}
 use Rattle.hpe_lane.proofs.Sizes.{zero_within, wider}

@@ -18,12 +18,12 @@ use crate::stage::Stage;
 use hpe_base::Steps;
 use std::sync::ledger::Ledger;
 
-/// The best edges of a stage of five bits at least: at place `2 f + b` the best from state 0 whose symbol has the first
+/// The best edges of a stage of four bits at least: at place `2 f + b` the best from state 0 whose symbol has the first
 /// bit `f` and the last bit `b`.
 #[inline(always)]
 pub fn best_edges(counts: &[u16], l: &[i32]) -> [i32; 4]
     requires stage { IsStage counts.now l.now }
-    requires many { 5 ≤ length l.now }
+    requires many { 4 ≤ length l.now }
     ensures { AreBestEdges (length l.now) (stage_edge counts.now l.now 0) result }
 {
     let mut blocks = [0; 32];
@@ -35,7 +35,7 @@ pub fn best_edges(counts: &[u16], l: &[i32]) -> [i32; 4]
 #[inline(always)]
 fn best_with(counts: &[u16], l: &[i32], blocks: &mut [i32], eight: &mut [i32]) -> [i32; 4]
     requires stage { IsStage counts.now l.now }
-    requires many { 5 ≤ length l.now }
+    requires many { 4 ≤ length l.now }
     requires blocks { length blocks.old ≡ 2 ^ (length l.now - 3) }
     requires eight { length eight.old ≡ 8 }
     ensures { AreBestEdges (length l.now) (stage_edge counts.now l.now 0) result }

@@ -1,7 +1,8 @@
 //! The kernels of soft values: one stage of a trellis at a time, what its states score before it or after it, from what
 //! they score on its other side.
 //!
-//! Scores are compared eight at a time, in the lanes of a vector. [`plain`] has the same kernels without lanes.
+//! Scores are compared eight at a time, in the lanes of a vector. [`plain`] has the same kernels without lanes, and without
+//! best edges, which stand for the lists of edges where a symbol has four bits or more.
 #![tactic(auto)]
 
 mod best;

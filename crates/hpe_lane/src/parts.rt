@@ -21,10 +21,10 @@ pub(crate) struct Parts<'a> {
     pub eight: &'a [i32],
 }
 
-/// Writes what the numbers of five bits at least score, in two parts.
+/// Writes what the numbers of four bits at least score, in two parts.
 #[inline(always)]
 pub(crate) fn write_parts(l: &[i32], blocks: &mut [i32], eight: &mut [i32])
-    requires few { (5 ≤ length l.now) × (length l.now ≤ 8) }
+    requires few { (4 ≤ length l.now) × (length l.now ≤ 8) }
     requires l { AllWithin clamp l.now }
     requires blocks { length blocks.old ≡ 2 ^ (length l.now - 3) }
     requires eight { length eight.old ≡ 8 }

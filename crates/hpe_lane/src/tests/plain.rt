@@ -105,7 +105,7 @@ fn stages_agree<R: Abort, L: Ledger>(rt: &R, m: usize, from0: &[i32], from1: &[i
     assert!(rt; lanes == wanted, "forward with {m} bits");
     let mut soft = [0; 8];
     let mut wanted_soft = [0; 8];
-    let lanes = step_back(ROW, from0, from1, ROW, &mut soft[..m], &mut steps);
+    let lanes = step_back::<L, 0>(ROW, from0, from1, ROW, &mut soft[..m], &mut steps);
     let wanted = plain::step_back(ROW, from0, from1, ROW, &mut wanted_soft[..m], &mut steps);
     assert!(rt;
         lanes == wanted && soft == wanted_soft,
@@ -123,7 +123,7 @@ fn best_agrees<R: Abort, L: Ledger>(rt: &R, counts: &[u16], l: &[i32], blank: Bl
 {
     let size = counts.len();
     assert!(rt; 2 <= size && size <= 256 && are_counts(counts) && are_numbers(l));
-    if l.len() < 5 {
+    if l.len() < 4 {
         return;
     }
     let mut from0 = [0; 256];

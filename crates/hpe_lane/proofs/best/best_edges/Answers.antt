@@ -1,4 +1,4 @@
-use Rattle.std.proofs.Common.{arith, ◌≡◌, ℕ, ℤ, ◌/◌, ◌∙◌, length}
+use Rattle.std.proofs.Common.{◌/◌, ◌∙◌, length}
 use Rattle.hpe_lane.proofs.BestEdges.{eighth}
 use Rattle.hpe_lane.proofs.Blocks.{take_long}
 use Rattle.hpe_lane.proofs.best.best_edges.Goals as goal

@@ -1,4 +1,4 @@
-use Rattle.std.proofs.Common.{arith, ◌≡◌, ℕ, ℤ, ◌+◌, ◌*◌, ◌/◌, ◌<◌, List, length, sym, ◌∙◌, ap, subst}
+use Rattle.std.proofs.Common.{arith, ◌≡◌, ℕ, ℤ, ◌+◌, ◌*◌, ◌/◌, length, sym, ◌∙◌, ap, subst}
 use Rattle.std.specs.Int.{int_max}
 use Rattle.hpe_base.specs.Sizes.{number_at}
 use Rattle.hpe_base.specs.Greatest.{IsGreatest}

@@ -1,4 +1,5 @@
-use Rattle.std.proofs.Common.{arith, rules, ◌≡◌, ℕ, ℤ, ◌+◌, ◌-◌, ◌*◌, ◌/◌, ◌%◌, ◌^◌, ◌<◌, ◌≤◌, ◌+ℤ◌, List, length, sym, ◌∙◌, ap, subst, pos, get_or, to_z, of_z, w32}
+use Rattle.std.proofs.Common.{arith, rules, ◌≡◌, ℕ, suc, ℤ, ◌+◌, ◌-◌, ◌*◌, ◌/◌, ◌%◌, ◌^◌, ◌<◌, ◌≤◌, ◌+ℤ◌, List, length, sym, ◌∙◌, ap, pos, get_or, to_z, of_z, w32}
+use Rattle.std.proofs.Math.Nat.{two-pow-succ}
 use Rattle.std.proofs.Math.Pow.{pow_mono}
 use Rattle.hpe_base.specs.Greatest.{IsGreatest}
 use Rattle.hpe_base.specs.Sizes.{number_at}
@@ -15,14 +16,14 @@ pub best_of_half-high-requires-clause-parts : goal.best_of_half-high-requires-cl
 best_of_half-high-requires-clause-parts c =
     parts_are c.args.counts.now c.write_parts.new.blocks c.write_parts.new.eight (length c.args.l.now) c.requires.many c.requires.stage.long (omega arith) (omega arith) c.requires.stage.most c.write_parts.ensures.small c.write_parts.ensures.small_eight
 
-two_blocks : (m n : ℕ) → 5 ≤ m → n ≡ 2 ^ (m - 3) → 2 ≤ n
+two_blocks : (m n : ℕ) → 4 ≤ m → n ≡ 2 ^ (m - 3) → 2 ≤ n
 two_blocks m n h e = let p : 2 ^ 1 ≤ 2 ^ (m - 3) = pow_mono {i = 1} {j = m - 3} (omega arith) in omega arith
 
 pub best_of_half-low-requires-clause-some : goal.best_of_half-low-requires-clause-some
 best_of_half-low-requires-clause-some c = two_blocks (length c.args.l.now) (length c.write_parts.new.blocks) c.requires.many (omega arith)
 
-half_blocks : (m n : ℕ) → 5 ≤ m → n ≡ 2 ^ (m - 3) → 8 * (n / 2) ≡ 2 ^ (m - 1)
-half_blocks m n h e = let a = eights_of m (omega arith) in let b = halves_of m (omega arith) in let d = halves_of (m - 3) (omega arith) in omega (arith, a, b.0, d.0)
+half_blocks : (m n : ℕ) → 4 ≤ m → n ≡ 2 ^ (m - 3) → 8 * (n / 2) ≡ 2 ^ (m - 1)
+half_blocks m n h e = let a = eights_of m (omega arith) in let b = halves_of m (omega arith) in let up : suc (m - 4) ≡ m - 3 = omega arith in let d : 2 ^ (m - 3) ≡ 2 ^ (m - 4) + 2 ^ (m - 4) = ap (λ (k : ℕ). 2 ^ k) (sym up) ∙ two-pow-succ (m - 4) in omega (arith, a, b.0, d)
 
 one_half : (h : ℕ) → h ≡ 1 * h
 one_half h = omega arith

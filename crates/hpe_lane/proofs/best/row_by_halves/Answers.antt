@@ -1,4 +1,4 @@
-use Rattle.std.proofs.Common.{arith, ◌≡◌, ℕ, ℤ, List, ◌<◌}
+use Rattle.std.proofs.Common.{arith, ℕ, ℤ}
 use Rattle.hpe_base.specs.Sizes.{number_at, Within}
 use Rattle.hpe_lane.proofs.BestEdges.{entry_less, low_way, high_way}
 use Rattle.hpe_lane.proofs.Sums.{at_pair}

@@ -1,4 +1,4 @@
-use Rattle.std.proofs.Common.{arith, rules, ◌≡◌, ℕ, ℤ, ◌%◌, ◌^◌, ◌<◌, ◌+ℤ◌, ◌-ℤ◌, List, length, sym, ◌∙◌, ap, ap₂, subst, pos, get_or, to_z, of_z, w32}
+use Rattle.std.proofs.Common.{arith, rules, ◌≡◌, ℕ, ℤ, ◌%◌, ◌^◌, ◌+ℤ◌, ◌-ℤ◌, List, length, sym, ◌∙◌, ap, ap₂, subst, pos, get_or, to_z, of_z, w32}
 use Rattle.std.specs.Int.{int_max}
 use Rattle.hpe_base.specs.Greatest.{IsGreatest}
 use Rattle.hpe_base.specs.Sizes.{number_at}

@@ -1,4 +1,4 @@
-use Rattle.std.proofs.Common.{◌≡◌, ℕ, ◌+◌, ◌-◌, ◌*◌, ◌<◌, ◌∙◌, ap, ap₂, ℤ, List, length, take, drop, arith, rules, get_or, pos, ◌+ℤ◌}
+use Rattle.std.proofs.Common.{◌≡◌, ℕ, ◌+◌, ◌-◌, ◌*◌, ◌<◌, ◌∙◌, ap₂, ℤ, List, take, drop, rules, get_or, pos, ◌+ℤ◌}
 use Rattle.std.proofs.lemmas.List.{places}
 use Rattle.hpe_lane.proofs.GrayParts.{parts_within}
 use Rattle.hpe_lane.proofs.parts.edges_of_block.Goals as goal

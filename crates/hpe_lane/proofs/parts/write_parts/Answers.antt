@@ -1,9 +1,8 @@
-use Rattle.std.proofs.Common.{◌≡◌, ℕ, ◌-◌, ◌*◌, ◌<◌, ◌≤◌, ◌^◌, ◌∙◌, ap, List, ℤ, length, pos, take, drop, arith, sym, subst}
+use Rattle.std.proofs.Common.{◌≡◌, ℕ, ◌-◌, ◌*◌, ◌<◌, ◌≤◌, ◌^◌, ◌∙◌, ap, List, ℤ, length, take, drop, arith, sym, subst}
 use Rattle.std.proofs.lemmas.List.{length-drop}
 use Rattle.hpe_lane.proofs.Blocks.{take_long}
 use Rattle.hpe_lane.proofs.GrayParts.{tail_whole, gray_parts, gray_all_within, take_within, five_most}
 use Rattle.hpe_lane.proofs.Sizes.{drop_within}
-use Rattle.hpe_base.specs.Sizes.{number_at}
 use Rattle.hpe_lane.specs.Edges.{gray_from}
 use Rattle.hpe_lane.proofs.parts.write_parts.Goals as goal
 
