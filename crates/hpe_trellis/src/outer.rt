@@ -28,7 +28,7 @@ use std::sync::ledger::Ledger;
 const NEVER: i32 = -500_000_000;
 
 /// The row before the first step, and the one after the last.
-const OUTSIDE: [i32; 4] = [0, NEVER, NEVER, NEVER];
+pub const OUTSIDE: [i32; 4] = [0, NEVER, NEVER, NEVER];
 
 /// The columns that the rates have as a rule, of which each has a copy of the recursions: 1/3 keeps all outputs.
 const THIRD: [[bool; 3]; 1] = [[true; 3]];
