@@ -1,6 +1,6 @@
 //! The check of a record.
-ghost use Rattle.std.specs.Prelude.{◌≡◌, ◌≢◌, ◌<◌, ◌≤◌, ◌+◌, ◌/◌, take, length, true, false, IfOk};
-ghost use Rattle.hpe_base.specs.Parameters.{clamp, code_steps};
+ghost use Rattle.std.specs.Prelude.{◌≡◌, ◌≢◌, ◌<◌, ◌≤◌, take, length, true, false, IfOk};
+ghost use Rattle.hpe_base.specs.Parameters.{clamp};
 ghost use Rattle.hpe_base.specs.declared.profile.Rate.{Rate};
 ghost use Rattle.hpe_base.specs.Sizes.{AllWithin};
 ghost use Rattle.hpe_witness.specs.Potentials.{potential_most, PotentialsWithin};
