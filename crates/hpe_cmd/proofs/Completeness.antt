@@ -15,13 +15,13 @@ use Rattle.hpe_sim.specs.declared.task.Task.{Task}
 use Rattle.hpe_cmd.specs.declared.ending.Ending.{Ending}
 use Rattle.hpe_cmd.specs.declared.ending.Ending.TheVariants as ending
 use Rattle.hpe_cmd.specs.declared.ending.Status.{Status}
-use Rattle.hpe_cmd.specs.declared.ending.Status.TheVariants.{Done, ReadFault, WriteFault, ReportFault, TooLong, Ragged, WordsLost, NoMarker, NoMemory}
+use Rattle.hpe_cmd.specs.declared.ending.Status.TheVariants.{Done, ReadFault, WriteFault, ReportFault, TooLong, Ragged, WordsLost, NoMarker}
 use Rattle.hpe_cmd.specs.declared.words.Action.{Action}
 use Rattle.hpe_cmd.specs.declared.words.Action.TheVariants.{Encode, Decode, Geometry, Simulate}
 use Rattle.hpe_cmd.specs.Causes.{HasCause, ShelfCause}
 use Rattle.hpe_cmd.specs.Changes.{Change, Fails, IsTold}
 use Rattle.hpe_cmd.specs.Complete.{HasOutcome, IsFeasible, IsWithin, MeetsNoFault, Outcome, decode_outcome, encode_outcome, geometry_outcome, outcome, simulate_outcome, summary_at}
-use Rattle.hpe_cmd.specs.DecodeRun.{DecodeRun, Decodes, lost_status, status_at}
+use Rattle.hpe_cmd.specs.DecodeRun.{DecodeRun, Decodes, status_at}
 use Rattle.hpe_cmd.specs.EncodeRun.{EncodeRun, Encodes, encode_line}
 use Rattle.hpe_cmd.specs.FaultLines.{ragged_line}
 use Rattle.hpe_cmd.specs.GeometryRun.{GeometryRun}
