@@ -1,8 +1,9 @@
 //! The kernels of soft values: one stage of a trellis at a time, what its states score before it or after it, from what
 //! they score on its other side.
 //!
-//! Scores are compared eight at a time, in the lanes of a vector. [`plain`] has the same kernels without lanes, and without
-//! best edges, which stand for the lists of edges where a symbol has four bits or more.
+//! Scores are compared eight at a time, in the lanes of a vector. [`plain`] has the same kernels without lanes.
+//! [`best_edges`] and [`step_by_best`] take a stage forward without a list of its edges, where a symbol has four bits or
+//! more; they have no plain form but that of the lists.
 #![tactic(auto)]
 
 mod best;
