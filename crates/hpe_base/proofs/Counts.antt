@@ -1,5 +1,5 @@
 -- Counts as octets, and slots as octets.
-use Rattle.std.proofs.Common.{◌≡◌, ◌≤◌, ◌<◌, ◌+◌, ◌*◌, ◌/◌, ◌%◌, ◌-◌, ◌++◌, ℕ, List, [], ◌∷◌, length, get_or, ap, sym, ◌∙◌, refl, arith, length-append, if◌then◌else◌, ◌==◌, suc, zero, inl, inr, ◌⊎◌, append-nil, replicate, Bool, true, false}
+use Rattle.std.proofs.Common.{◌≡◌, ◌≤◌, ◌<◌, ◌+◌, ◌*◌, ◌/◌, ◌%◌, ◌-◌, ◌++◌, ℕ, List, [], ◌∷◌, length, get_or, ap, sym, ◌∙◌, refl, arith, length-append, if◌then◌else◌, ◌==◌, suc, zero, inl, inr, ◌⊎◌, append-nil, replicate, Bool, true, false, sum, ap₂}
 use Rattle.std.specs.List.{flat_map}
 use Rattle.std.proofs.lemmas.Nat.{div-mul-add, mod-mul-add, div-add-mod', mod_below}
 use Rattle.std.proofs.lemmas.List.{get_or_append_left, get_or-append_right}
@@ -11,7 +11,9 @@ use Rattle.hpe_base.specs.Parameters.{Parameters}
 use Rattle.hpe_base.specs.Counts.{count_at, counts_of, odd_octets, low_octet}
 use Rattle.hpe_base.specs.ClearChannel.{clear}
 use Rattle.hpe_base.proofs.BitLists.{length-zeros}
-use Rattle.hpe_base.proofs.Tabulated.{tabulate-append, tabulate-same, tabulate-none, tabulate-suc, length-tabulate, get_or-tabulate, tabulate_from_places}
+use Rattle.hpe_base.proofs.Tabulated.{tabulate-append, tabulate-same, tabulate-none, tabulate-suc, length-tabulate, get_or-tabulate, tabulate_from_places, tabulate-more}
+use Rattle.std.proofs.lemmas.Bool.Decides.{nat_tests}
+use Rattle.std.proofs.lemmas.List.Sums.{sum_by-append, sum_by-cons}
 
 -- ---- octets that carry slots
 -- whole slots before a place
@@ -177,3 +179,58 @@ counts_of_from_places p octets counts w same some l h =
     let size : length octets / w ≡ length counts = ap (λ n. n / w) whole ∙ div-mul-add (length counts) w 0 some in
     tabulate_from_places (length counts) (count_at w octets) counts 0 refl h
     ∙ (ap (λ n. tabulate n (count_at w octets)) (sym size) ∙ ap (λ v. tabulate (length octets / v) (count_at v octets)) (sym same))
+
+-- ---- the octets of single counts
+-- a count of one octet
+pub octet_of_one : (count : ℕ) → tabulate 1 (low_octet 1 (λ i. count)) ≡ count ∷ []
+unfolding tabulate
+octet_of_one count = refl
+
+-- a count of two octets
+pub octets_of_two : (count : ℕ) → tabulate 2 (low_octet 2 (λ i. count)) ≡ 0 ∷ count ∷ []
+unfolding tabulate
+octets_of_two count = refl
+
+-- one count more
+pub octets-more : (w n : ℕ) (f : ℕ → ℕ) → 0 < w → tabulate (w * (n + 1)) (low_octet w f) ≡ tabulate (w * n) (low_octet w f) ++ tabulate w (low_octet w (λ i. f n))
+octets-more w n f h =
+    octets-flat w (n + 1) f h
+    ∙ (ap (flat_map (slot_octets w)) (tabulate-more n f)
+    ∙ (flat_map-append (slot_octets w) (tabulate n f) (f n ∷ [])
+    ∙ (ap (λ xs. xs ++ flat_map (slot_octets w) (f n ∷ [])) (sym (octets-flat w n f h))
+    ∙ ap (λ xs. tabulate (w * n) (low_octet w f) ++ xs) (append-nil (slot_octets w (f n))))))
+
+-- the last octet of count i
+last_octet : (w i : ℕ) (f : ℕ → ℕ) → 0 < w → low_octet w f (w * i + (w - 1)) ≡ f i
+last_octet w i f h =
+    let place : w * i + (w - 1) ≡ i * w + (w - 1) = (let swap : w * i ≡ i * w = grind arith in omega arith) in
+    let last : (w * i + (w - 1)) % w ≡ w - 1 = ap (λ n. n % w) place ∙ mod-mul-add i w (w - 1) (omega arith) in
+    let count : (w * i + (w - 1)) / w ≡ i = ap (λ n. n / w) place ∙ div-mul-add i w (w - 1) (omega arith) in
+    let same : (w - 1 == w - 1) ≡ true = grind (arith, nat_tests) in
+    rw (last, count, same) refl
+
+-- count i is the last of its octets, where these are the octets of counts below 256
+pub get_or-octets : (w n i : ℕ) (f : ℕ → ℕ) (octets : List ℕ) → 0 < w → i < n → octets ≡ tabulate (w * n) (low_octet w f) → get_or octets (w * i + (w - 1)) 0 ≡ f i
+get_or-octets w n i f octets h b e =
+    let within : w * i + (w - 1) < w * n = grind arith in
+    ap (λ (l : List ℕ). get_or l (w * i + (w - 1)) 0) e ∙ get_or-tabulate (w * n) (low_octet w f) (w * i + (w - 1)) 0 within ∙ last_octet w i f h
+
+-- ---- all counts
+-- as many counts as there are whole ones
+pub length-counts_of : (p : Parameters) (octets : List ℕ) → length (counts_of p octets) ≡ length octets / p.count_octets
+unfolding counts_of
+length-counts_of p octets = length-tabulate _ _
+
+-- the octets of a count add up to it
+sum-octets : (w count : ℕ) → 1 ≤ w → w ≤ 2 → sum (slot_octets w count) ≡ count
+sum-octets zero count low high = absurd (omega arith)
+sum-octets (suc zero) count low high = ap sum (octet_of_one count) ∙ omega arith
+sum-octets (suc (suc zero)) count low high = ap sum (octets_of_two count) ∙ omega arith
+sum-octets (suc (suc (suc w))) count low high = absurd (omega arith)
+
+-- the octets of all counts
+pub sum-slot_octets : (w : ℕ) (counts : List ℕ) → 1 ≤ w → w ≤ 2 → sum (flat_map (slot_octets w) counts) ≡ sum counts
+sum-slot_octets w [] low high = refl
+sum-slot_octets w (c ∷ cs) low high =
+    sum_by-append (λ n. n) (slot_octets w c) (flat_map (slot_octets w) cs) ∙ ap₂ (λ a b. a + b) (sum-octets w c low high) (sum-slot_octets w cs low high)
+    ∙ sym (sum_by-cons (λ n. n) c cs)

@@ -8,6 +8,8 @@ pub mod Selected
 pub mod FrameScan
 pub mod SentFrames
 pub mod SymbolSums
+pub mod ReceivedRows
+pub mod Groups
 pub mod Shapes
 pub mod MarkerSearch
 pub mod Permutation
@@ -22,4 +24,6 @@ pub mod UnitLemmas
 pub mod Greatest
 pub mod Trellis
 pub mod GreatestScores
+pub mod SentSlots
+pub mod DecodedSize
 mod Examples

@@ -101,11 +101,13 @@ are_columns p v = record { some = v.range.columns_low; few = v.range.columns_hig
 product_pos : (a b : ℕ) → 0 < a → 0 < b → 0 < a * b
 product_pos a b ha hb = let one : 1 * 1 ≤ a * b = mul-le 1 1 a b ha hb in omega arith
 
+-- a symbol has slots
+pub symbol_slots-pos : (p : Parameters) → IsValid p → 0 < symbol_slots p
+symbol_slots-pos p v = product_pos p.repeat (sending_slots p.order) v.range.repeat_low (omega (arith, positions-lt p.order))
+
 -- a period isn't empty
 pub period-pos : (p : Parameters) → IsValid p → 0 < period_slots p
-period-pos p v =
-    product_pos (period_symbols p) (symbol_slots p) (omega (arith, codeword_symbols-ge p.order))
-    (product_pos p.repeat (sending_slots p.order) v.range.repeat_low (omega (arith, positions-lt p.order)))
+period-pos p v = product_pos (period_symbols p) (symbol_slots p) (omega (arith, codeword_symbols-ge p.order)) (symbol_slots-pos p v)
 
 -- the periods before one that is searched end within the window
 pub periods-le : (p : Parameters) (j : ℕ) → IsValid p → j < p.search → j * period_slots p + period_slots p ≤ 2 ^ 26

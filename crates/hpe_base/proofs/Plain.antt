@@ -8,7 +8,7 @@ use Rattle.hpe_base.specs.Lists.{tabulate}
 use Rattle.hpe_base.specs.Parameters.{Parameters, positions, sending_slots, period_slots}
 use Rattle.hpe_base.specs.ChannelInterleaver.{interleaved_channel}
 use Rattle.hpe_base.specs.Slots.{slot_at, octets_to, slots_to}
-use Rattle.hpe_base.specs.Counts.{low_octet, odd_octets}
+use Rattle.hpe_base.specs.Counts.{low_octet}
 use Rattle.hpe_base.specs.ReceivedWords.{symbol_sums}
 use Rattle.hpe_base.specs.Laws.{OneOctetIsPlain, whole_sums}
 use Rattle.hpe_base.proofs.Tabulated.{tabulate-same, sum-tabulate-le}

@@ -1,8 +1,8 @@
 -- Lemmas on lists that are given by their places or piece by piece.
-use Rattle.std.proofs.Common.{◌≡◌, ◌++◌, ◌+◌, ◌-◌, ◌*◌, ◌<◌, ◌≤◌, ℕ, List, [], ◌∷◌, refl, length, get_or, sum, sym, ◌∙◌, ap, arith, zero, suc, add-one, length-append, append_assoc, inl, inr, subst, add-zero, append-nil}
+use Rattle.std.proofs.Common.{◌≡◌, ◌++◌, ◌+◌, ◌-◌, ◌*◌, ◌<◌, ◌≤◌, ℕ, List, [], ◌∷◌, refl, length, get_or, sum, sym, ◌∙◌, ap, arith, zero, suc, add-one, length-append, append_assoc, inl, inr, subst, add-zero, append-nil, take, All}
 use Rattle.std.proofs.lemmas.Nat.{mul-add-lt}
 use Rattle.std.proofs.lemmas.Bool.{cases_eq}
-use Rattle.std.proofs.lemmas.List.{get_or_append_left, get_or-append_right}
+use Rattle.std.proofs.lemmas.List.{get_or_append_left, get_or-append_right, length-take-le, get_or-take}
 use Rattle.std.proofs.lemmas.List.Sums.{sum_by_push}
 use Rattle.std.proofs.lemmas.List.FromFn.{length-map-range_with_len, get_or-map-range_with_len, map-range_with_len_more, fill_by_all}
 use Rattle.hpe_base.specs.Lists.{tabulate, joined}
@@ -29,9 +29,25 @@ unfolding tabulate
 tabulate-more n f = map-range_with_len_more f 0 n n (omega arith)
 
 -- equal values at each place
-pub tabulate-same : (n : ℕ) (f g : ℕ → ℕ) → ((k : ℕ) → k < n → f k ≡ g k) → tabulate n f ≡ tabulate n g
+pub tabulate-same : {X : Type 0} (n : ℕ) (f g : ℕ → X) → ((k : ℕ) → k < n → f k ≡ g k) → tabulate n f ≡ tabulate n g
 tabulate-same n f g h =
-    tabulate_from_places n g (tabulate n f) 0 (length-tabulate n f) (λ k b. get_or-tabulate n f k 0 b ∙ h k b)
+    tabulate_from_places n g (tabulate n f) (f 0) (length-tabulate n f) (λ k b. get_or-tabulate n f k (f 0) b ∙ h k b)
+
+-- a list of numbers is given by its places
+pub tabulate-places : (xs : List ℕ) → tabulate (length xs) (λ k. get_or xs k 0) ≡ xs
+tabulate-places xs = sym (tabulate_from_places (length xs) (λ k. get_or xs k 0) xs 0 refl (λ k b. refl))
+
+-- the front of a list by places
+pub take-tabulate : {X : Type 0} (m n : ℕ) (f : ℕ → X) → m ≤ n → take m (tabulate n f) ≡ tabulate m f
+take-tabulate m n f h =
+    tabulate_from_places m f (take m (tabulate n f)) (f 0) (length-take-le m (tabulate n f) (omega (arith, length-tabulate n f)))
+    (λ k below. get_or-take m (tabulate n f) k (f 0) below ∙ get_or-tabulate n f k (f 0) (omega arith))
+
+-- what holds of each value holds in the list
+pub All-tabulate : {X : Type 0} (Q : X → Type 0) (n : ℕ) (f : ℕ → X) → ((k : ℕ) → Q (f k)) → All Q (tabulate n f)
+All-tabulate Q n f h = λ i d below.
+    let l : length (tabulate n f) ≡ n = length-tabulate n f in
+    subst Q (sym (get_or-tabulate n f i d (omega arith))) (h i)
 
 -- one list more, by n + 1
 pub joined-more : {X : Type 0} (n : ℕ) (f : ℕ → List X) → joined (n + 1) f ≡ joined n f ++ f n

@@ -14,7 +14,7 @@ use Rattle.hpe_cmd.specs.DecodeRun.{decode_status, status_at}
 use Rattle.hpe_cmd.proofs.DecodeStatus.{status_lit}
 
 -- octets that are all that was left are those that were taken to the end
-taken_all : (known taken : List ℕ) (left : Option (List ℕ)) → Some known ≡ prepend_known taken left → IsAtEnd left
+pub taken_all : (known taken : List ℕ) (left : Option (List ℕ)) → Some known ≡ prepend_known taken left → IsAtEnd left
     → taken ≡ known
 taken_all known taken None lost end = cc
 taken_all known taken (Some rest) lost end =

@@ -10,3 +10,4 @@ pub mod EncodeCases
 pub mod DecodeCases
 pub mod SimulateCases
 pub mod ActCases
+pub mod Completeness

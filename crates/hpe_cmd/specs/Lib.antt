@@ -9,3 +9,4 @@ pub mod DecodeRun
 pub mod GeometryRun
 pub mod SimulateRun
 pub mod Runs
+pub mod Complete

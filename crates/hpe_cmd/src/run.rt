@@ -1,10 +1,12 @@
 //! What the program does for its words.
 
-ghost use Rattle.std.specs.Prelude.{◌≡◌, ◌≤◌, ◌+◌, ◌^◌, IfErr, IfOk, IfSome, IsTrue, Ok, Some, false};
+ghost use Rattle.std.specs.Prelude.{◌≡◌, ◌≤◌, ◌+◌, ◌^◌, IfErr, IfOk, IfSome, IsTrue, List, Ok, Some, false, ℕ};
+ghost use Rattle.hpe_base.specs.Parameters.{Parameters};
 ghost use Rattle.hpe_io.specs.Devices.{Grows, TakesAtMost};
 ghost use Rattle.hpe_io.specs.Standing.{SinkStands, SourceStands};
 ghost use Rattle.hpe_cmd.specs.Causes.{HasCause, ShelfCause};
 ghost use Rattle.hpe_cmd.specs.Changes.{change};
+ghost use Rattle.hpe_cmd.specs.Complete.{HasOutcome, IsFeasible, MeetsNoFault, outcome};
 ghost use Rattle.hpe_cmd.specs.DecodeRun.{DecodeRun};
 ghost use Rattle.hpe_cmd.specs.EncodeRun.{EncodeRun};
 ghost use Rattle.hpe_cmd.specs.GeometryRun.{GeometryRun};
@@ -160,15 +162,25 @@ pub fn run<T: AllocGlobal + Threads + Sync, G: Gate, S: Shelf, I: Source, O: Sin
         → (reads_input r.action ≡ false → result.input ≡ input)
         × (r.action ≡ Action.Geometry → result.status ≡ Status.Done → report.new ≡ report.old) }
 
+    // Where nothing fails.
+    ensures complete { (r : Request) (p : Parameters) (octets : List ℕ)
+        → IsFeasible (asked (texts_of words.now)) (S.texts shelf.old) (I.left input) r p octets
+        → MeetsNoFault (S.faults shelf.old) (S.faults shelf.new) (change I.left I.faults input result.input)
+        (change O.written O.faults output.old output.new)
+        (change R.written R.faults report.old report.new) result.status
+        → HasOutcome (outcome r.action p r.task octets)
+        (change O.written O.faults output.old output.new)
+        (change R.written R.faults report.old report.new) result.status }
+
     // The devices.
     ensures cause { ShelfCause result.status (S.faults shelf.old) (S.faults shelf.new)
         × HasCause result.status (change I.left I.faults input result.input)
         (change O.written O.faults output.old output.new) (change R.written R.faults report.old report.new) }
     ensures moved { TakesAtMost (I.left input) (I.left result.input) (2 ^ 40 + 1)
         × Grows (O.written output.old) (O.written output.new) }
-    ensures input { SourceStands I.faults I.mark I.build input result.input }
-    ensures output { SinkStands O.faults O.mark output.old output.new }
-    ensures report { SinkStands R.faults R.mark report.old report.new }
+    ensures devices { SourceStands I.faults I.mark I.build input result.input
+        × SinkStands O.faults O.mark output.old output.new
+        × SinkStands R.faults R.mark report.old report.new }
 {
     match follow(&Host { rt, gate }, words, shelf, &mut input, output, report) {
         Ok(status) => Ended { status, input },

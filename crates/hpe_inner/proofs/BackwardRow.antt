@@ -16,7 +16,8 @@ use Rattle.hpe_base.proofs.Trellis.{Back, IsRun, back_step, back_last, meet}
 use Rattle.hpe_base.proofs.ParameterLemmas.{positions-high}
 use Rattle.hpe_lane.specs.Edges.{input_bit, edge_of}
 use Rattle.hpe_lane.proofs.Soft.{IsGreatest-score, IsSoft-score}
-use Rattle.hpe_inner.specs.Sweeps.{stage_edge, inner_edge, inner_next, inner_start, IsForwardRow, BackRow, IsSoftAt, AreSoft}
+use Rattle.hpe_inner.specs.Sweeps.{inner_edge, inner_next, inner_start, IsForwardRow, BackRow, IsSoftAt, AreSoft}
+use Rattle.hpe_lane.specs.Parts.{stage_edge}
 use Rattle.hpe_inner.proofs.BestWord.{walk-within, inner-top}
 use Rattle.hpe_inner.proofs.ForwardRow.{cut_is, cut_long, edge_is}
 

@@ -14,7 +14,8 @@ use Rattle.hpe_base.specs.declared.profile.Order.{Order}
 use Rattle.hpe_base.proofs.ParameterLemmas.{symbol_bits-low, positions-high}
 use Rattle.std.proofs.lemmas.Bool.{cases_lt}
 use Rattle.hpe_lane.specs.Stages.{IsStage}
-use Rattle.hpe_inner.specs.Sweeps.{IsSweepable, stage_edge, inner_edge, inner_next, inner_start, RowWithin, IsForwardRow}
+use Rattle.hpe_inner.specs.Sweeps.{IsSweepable, inner_edge, inner_next, inner_start, RowWithin, IsForwardRow}
+use Rattle.hpe_lane.specs.Parts.{stage_edge}
 use Rattle.hpe_base.proofs.Greatest.{IsGreatest-carry}
 use Rattle.hpe_lane.proofs.DifferingBits.{gray-within, list_within}
 use Rattle.hpe_lane.proofs.Sizes.{zero_within, wider, drop_within}
@@ -57,10 +58,10 @@ value_within most t size b row edge z two bl ew w g =
       lower (number_at row 0 +ℤ edge 0 b) z (t * most + most) low (ge_sum (t * most) most (number_at row 0) (edge 0 b) w.0.1 (ew 0 b).1),
     )
 
-wide : (n : ℕ) (z : ℤ) → n ≤ 1100000000 → Within n z → Within 1100000000 z
+wide : (n : ℕ) (z : ℤ) → n ≤ 1099983617 → Within n z → Within 1099983617 z
 wide n z h w = (let a = w.0 in omega (arith, ints), let a = w.1 in omega (arith, ints))
 
-pub row-within : (most t size : ℕ) (row next : List ℤ) (edge : ℕ → ℕ → ℤ) → 2 ≤ size → ((p v : ℕ) → Within most (edge p v)) → RowWithin most t row → (t + 1) * most ≤ 1100000000
+pub row-within : (most t size : ℕ) (row next : List ℤ) (edge : ℕ → ℕ → ℤ) → 2 ≤ size → ((p v : ℕ) → Within most (edge p v)) → RowWithin most t row → (t + 1) * most ≤ 1099983617
     → ((b : ℕ) → b < 2 → IsGreatest (λ (e : ℕ × ℕ). IsEdge size 2 e × (e.1 % 2 ≡ b)) (λ e. number_at row e.0 +ℤ edge e.0 e.1) (number_at next b))
     → RowWithin most (t + 1) next
 row-within most t size row next edge two ew w cap best =
@@ -70,7 +71,7 @@ row-within most t size row next edge two ew w cap best =
     (a, b.0, wide ((t + 1) * most) (number_at next 1) cap b)
 
 -- one row more
-pub IsForwardRow-more : (m t : ℕ) (counts : List ℕ) (l row next : List ℤ) → 2 ≤ 2 ^ m → (t + 1) * ((m + 1) * 16383) ≤ 1100000000
+pub IsForwardRow-more : (m t : ℕ) (counts : List ℕ) (l row next : List ℤ) → 2 ≤ 2 ^ m → (t + 1) * ((m + 1) * 16383) ≤ 1099983617
     → ((p v : ℕ) → Within ((m + 1) * 16383) (inner_edge m counts l t p v))
     → IsForwardRow m t counts l row
     → ((b : ℕ) → b < 2 → IsGreatest (λ (e : ℕ × ℕ). IsEdge (2 ^ m) 2 e × (e.1 % 2 ≡ b)) (λ e. number_at row e.0 +ℤ inner_edge m counts l t e.0 e.1) (number_at next b))
@@ -101,7 +102,7 @@ IsForwardRow-same m t counts l row x y ex ey b = record {
   small = let w = b.small in (
     subst (Within (t * ((m + 1) * 16383))) (sym ex) w.0,
     subst (λ (z : ℤ). z ≤ℤ pos (t * ((m + 1) * 16383))) (sym ey) w.1,
-    subst (Within 1100000000) (sym ey) w.2,
+    subst (Within 1099983617) (sym ey) w.2,
   );
 }
   where
@@ -110,7 +111,7 @@ IsForwardRow-same m t counts l row x y ex ey b = record {
     two_is row x y ex ey (suc zero) h = sym ey
     two_is row x y ex ey (suc (suc s)) h = absurd (omega arith)
 
-pub row_fits : (most t : ℕ) (row : List ℤ) → t * most ≤ 1100000000 → RowWithin most t row → (s : ℕ) → s < 2 → Within 1100000000 (number_at row s)
+pub row_fits : (most t : ℕ) (row : List ℤ) → t * most ≤ 1099983617 → RowWithin most t row → (s : ℕ) → s < 2 → Within 1099983617 (number_at row s)
 row_fits most t row cap w zero h = wide (t * most) (number_at row 0) cap w.0
 row_fits most t row cap w (suc zero) h = w.2
 row_fits most t row cap w (suc (suc s)) h = absurd (omega arith)
@@ -122,7 +123,7 @@ cut_is t size n xs e = let k : (t + 1) * size - t * size ≡ size = omega arith 
 pub cut_long : {A : Type 0} (t m n : ℕ) (xs : List A) → length xs ≡ n * m → t < n → length (take m (drop (t * m) xs)) ≡ m
 cut_long t m n xs e h = let k : (t + 1) * m ≤ n * m = grind (arith, mul-le-mul_right) in simp (length-take, length-drop) (omega arith)
 
-pub below_cap : (t n most : ℕ) → t ≤ n → n * most ≤ 371566440 → t * most ≤ 1100000000
+pub below_cap : (t n most : ℕ) → t ≤ n → n * most ≤ 371566440 → t * most ≤ 1099983617
 below_cap t n most h k = let p : t * most ≤ n * most = mul-le-mul_right most h in omega arith
 
 take_most : (n : ℕ) (xs : List ℕ) → ((i : ℕ) → get_or xs i 0 ≤ 16383) → (i : ℕ) → get_or (take n xs) i 0 ≤ 16383

@@ -1,20 +1,15 @@
 -- The inner code as a trellis, and what sweeps over it hold. The state is the last bit that the accumulator gave, and
 -- the input of a stage is its symbol, of m bits.
-use Rattle.std.specs.Prelude.{if◌then◌else◌, ◌==◌, ◌≡◌, ℕ, ◌+◌, ◌-◌, ◌*◌, ◌/◌, ◌%◌, ◌^◌, ◌<◌, ◌≤◌, ℤ, pos, negsuc, ◌+ℤ◌, ◌-ℤ◌, ◌≤ℤ◌, Some, List, [], length, slice_index, slice_index_or, take, drop}
+use Rattle.std.specs.Prelude.{if◌then◌else◌, ◌==◌, ◌≡◌, ℕ, ◌+◌, ◌-◌, ◌*◌, ◌/◌, ◌%◌, ◌^◌, ◌<◌, ◌≤◌, ℤ, pos, negsuc, ◌-ℤ◌, ◌≤ℤ◌, Some, List, [], length, slice_index, slice_index_or, take, drop}
 use Rattle.hpe_base.proofs.Trellis.{Fore, Back}
 use Rattle.hpe_base.specs.Sizes.{number_at, Within, AllWithin}
 use Rattle.hpe_base.specs.GreatestScores.{inner_top}
 use Rattle.hpe_base.specs.declared.profile.Order.{Order}
-use Rattle.hpe_lane.specs.Edges.{gray_from}
-use Rattle.hpe_lane.specs.Bounds.{fore_most}
+use Rattle.hpe_lane.specs.Parts.{entry_most, stage_edge}
 use Rattle.hpe_lane.specs.Windows.{window, windows}
 use Rattle.hpe_base.specs.Parameters.{clamp, symbol_bits, positions, codeword_bits}
 
--- what symbol v scores in state p, with the counts and the numbers of one stage
-abbrev pub stage_edge : List ℕ → List ℤ → ℕ → ℕ → ℤ
-stage_edge counts l p v = pos (slice_index counts v) +ℤ gray_from p l v
-
--- the same at stage t of a word
+-- what symbol v scores in state p at stage t of a word
 abbrev pub inner_edge : ℕ → List ℕ → List ℤ → ℕ → ℕ → ℕ → ℤ
 inner_edge m counts l t p v = stage_edge (take (2 ^ m) (drop (t * 2 ^ m) counts)) (take m (drop (t * m) l)) p v
 
@@ -28,7 +23,7 @@ inner_start q = if q == 0 then pos 0 else negsuc 1073741823
 
 -- the sizes of a row before stage t, where an edge scores at most `most`
 abbrev pub RowWithin : ℕ → ℕ → List ℤ → Type 0
-RowWithin most t row = Within (t * most) (number_at row 0) × (number_at row 1 ≤ℤ pos (t * most)) × Within fore_most (number_at row 1)
+RowWithin most t row = Within (t * most) (number_at row 0) × (number_at row 1 ≤ℤ pos (t * most)) × Within entry_most (number_at row 1)
 
 -- the greatest size of a word's score: the clamp for each bit of a codeword, and for each symbol, of two bits at least
 abbrev pub score_most : ℕ

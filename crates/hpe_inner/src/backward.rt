@@ -4,17 +4,18 @@
 //! either state. The windows are taken from the last to the first: the rows of a window are made again from the row
 //! that the forward sweep kept, and then each stage is met from its end. Between the two rows of a stage, the best edge
 //! with an input bit of 1 less the best with a 0 gives the soft value of the bit.
-ghost use Rattle.std.specs.Prelude.{◌≡◌, ℕ, ◌+◌, ◌-◌, ◌*◌, ◌<◌, ◌≤◌, ◌^◌, length};
+ghost use Rattle.std.specs.Prelude.{◌≡◌, ◌+◌, ◌-◌, ◌*◌, ◌<◌, ◌≤◌, ◌^◌, length};
 ghost use Rattle.hpe_base.specs.Parameters.{symbol_bits};
-ghost use Rattle.hpe_lane.specs.Bounds.{IsRow, fore_most, row_most};
+ghost use Rattle.hpe_lane.specs.Bounds.{IsRow, row_most};
 ghost use Rattle.hpe_lane.specs.Stages.{AreStageSoft, IsBackStep, IsStage};
+ghost use Rattle.hpe_lane.specs.Parts.{entry_most, stage_edge};
 ghost use Rattle.hpe_lane.specs.Windows.{window, windows};
-ghost use Rattle.hpe_inner.specs.Sweeps.{stage_edge, AreForwardRows, AreKeptRows, AreSame, AreSoft, IsBackwardRow, IsSweepable};
+ghost use Rattle.hpe_inner.specs.Sweeps.{AreForwardRows, AreKeptRows, AreSame, AreSoft, IsBackwardRow, IsSweepable};
 
 use crate::forward::window_rows;
-use crate::word::{Between, Span, Stage, Word};
+use crate::word::{Between, Span, Word};
 use hpe_base::Steps;
-use hpe_lane::{WINDOW, edge_scores, step_back};
+use hpe_lane::{Stage, WINDOW, edge_scores, step_back};
 use std::sync::ledger::Ledger;
 
 /// Writes the soft values of a window, from its last stage to its first, by the rows before its stages and the row
@@ -117,7 +118,7 @@ fn stage_back<L: Ledger, const BITS: usize>(
 ) -> [i32; 2]
     requires stage { IsStage stage.counts.now stage.l.now }
     requires out { length out.old ≡ length stage.l.now }
-    requires fore { IsRow 2 fore_most between.fore }
+    requires fore { IsRow 2 entry_most between.fore }
     requires back { IsRow 2 row_most between.back }
     requires from0 { length from0.old ≡ 2 ^ length stage.l.now }
     requires from1 { length from1.old ≡ 2 ^ length stage.l.now }
@@ -129,5 +130,5 @@ fn stage_back<L: Ledger, const BITS: usize>(
     ensures step { steps.new ≡ steps.old + 1 }
 {
     edge_scores(stage.counts, stage.l, from0, from1);
-    step_back(between.fore, from0, from1, between.back, out, steps)
+    step_back::<L, BITS>(between.fore, from0, from1, between.back, out, steps)
 }

@@ -6,20 +6,24 @@
 //!
 //! Only the row before each window of 64 stages is kept. The backward sweep makes the rows of a window again when it
 //! comes there: a third visit of each stage, for a row in 64 of the memory.
-ghost use Rattle.std.specs.Prelude.{◌≡◌, ℕ, ◌+◌, ◌<◌, ◌≤◌, ◌^◌, length};
+ghost use Rattle.std.specs.Prelude.{◌≡◌, ◌+◌, ◌<◌, ◌≤◌, ◌^◌, length};
 ghost use Rattle.hpe_base.specs.Parameters.{symbol_bits};
-ghost use Rattle.hpe_lane.specs.Bounds.{IsRow, fore_most};
+ghost use Rattle.hpe_lane.specs.Bounds.{IsRow};
+ghost use Rattle.hpe_lane.specs.Parts.{entry_most, stage_edge};
 ghost use Rattle.hpe_lane.specs.Stages.{IsForwardStep, IsStage};
 ghost use Rattle.hpe_lane.specs.Windows.{window, windows};
-ghost use Rattle.hpe_inner.specs.Sweeps.{stage_edge, AreForwardRows, AreKeptRows, IsForwardRow, IsSweepable};
+ghost use Rattle.hpe_inner.specs.Sweeps.{AreForwardRows, AreKeptRows, IsForwardRow, IsSweepable};
 
-use crate::word::{Span, Stage, Word};
+use crate::word::{Span, Word};
 use hpe_base::Steps;
-use hpe_lane::{WINDOW, edge_scores, step_forward};
+use hpe_lane::{Stage, WINDOW, best_edges, edge_scores, step_by_best, step_forward};
 use std::sync::ledger::Ledger;
 
 /// The row before the first stage: a word starts in state 0, and no word can make up for another start.
 const START: [i32; 2] = [0, -1_073_741_824];
+
+/// From so many bits a symbol on, edges are scored a block at a time, and no list of them is kept.
+pub const BLOCKS_FROM: usize = 5;
 
 /// Writes the rows before the stages of a window, and gives the row after the window.
 #[inline(always)]
@@ -104,7 +108,7 @@ fn stage_forward<L: Ledger, const BITS: usize>(
     steps: &mut Steps<L>,
 ) -> [i32; 2]
     requires stage { IsStage stage.counts.now stage.l.now }
-    requires row { IsRow 2 fore_most row }
+    requires row { IsRow 2 entry_most row }
     requires from0 { length from0.old ≡ 2 ^ length stage.l.now }
     requires from1 { length from1.old ≡ 2 ^ length stage.l.now }
     requires room { steps.old < 2 ^ 60 }
@@ -112,6 +116,10 @@ fn stage_forward<L: Ledger, const BITS: usize>(
         (stage_edge stage.entry.counts.now stage.entry.l.now) row result }
     ensures step { steps.new ≡ steps.old + 1 }
 {
+    if stage.l.len() >= BLOCKS_FROM {
+        let best = best_edges(stage.counts, stage.l);
+        return step_by_best(stage, best, row, steps);
+    }
     edge_scores(stage.counts, stage.l, from0, from1);
     step_forward(row, from0, from1, steps)
 }

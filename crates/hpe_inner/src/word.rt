@@ -1,4 +1,4 @@
-//! What the sweeps run over: a word, a window of its stages, one stage, and the rows on its two sides.
+//! What the sweeps run over: a word, a window of its stages, and the rows on the two sides of a stage.
 //!
 //! They go together from the sweeps down to a stage, so each is a struct that is passed as one. The compiler takes them
 //! apart again where a sweep stands in one piece.
@@ -22,13 +22,6 @@ pub struct Word<'a> {
 pub struct Span {
     pub start: usize,
     pub count: usize,
-}
-
-/// One stage: the counts and the numbers of its symbol.
-#[derive(Clone, Copy)]
-pub struct Stage<'a> {
-    pub counts: &'a [u16],
-    pub l: &'a [i32],
 }
 
 /// The rows that a stage stands between: what each state scores before it, and what from its end on.

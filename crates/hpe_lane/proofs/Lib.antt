@@ -13,6 +13,8 @@ pub mod LaneBests
 pub mod OneLane
 pub mod Vectors
 pub mod Blocks
+pub mod GrayParts
+pub mod BestEdges
 pub mod EndBests
 pub mod Eights
 pub mod WindowEnds

@@ -8,3 +8,4 @@ pub mod Eights
 pub mod Windows
 pub mod Stages
 pub mod Bounds
+pub mod Parts

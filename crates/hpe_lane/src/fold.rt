@@ -20,9 +20,10 @@ use std::marker::PhantomData;
 /// The soft values of the input bits of a list's places.
 ///
 /// The first input bit of a place is its first bit, so it tells the halves of the list apart. The other input bits are
-/// those of the place, or of its mirror image, in a list of half the length, to which the list is folded.
+/// those of the place, or of its mirror image, in a list of half the length, to which the list is folded. Nothing reads
+/// `BITS`: a caller that gives each length its own has a copy for each, whose lengths the compiler knows.
 #[inline(always)]
-pub fn fold_soft(scores: &mut [i32], out: &mut [i32])
+pub fn fold_soft<const BITS: usize>(scores: &mut [i32], out: &mut [i32])
     requires scores { length scores.old ≡ 2 ^ length out.old }
     requires near { Near apart_most (length scores.old) scores.old }
     ensures { AreListSoft (length out.old) (2 ^ length out.old) (length out.old) scores.old out.new }
@@ -30,17 +31,14 @@ pub fn fold_soft(scores: &mut [i32], out: &mut [i32])
     let m = out.len();
     if m < 3 {
         fold_turns(m, scores, out);
-    } else if m > 6 {
-        Last::fold(scores, out);
     } else {
-        Then::<Then<Then<Last>>>::fold(scores, out);
+        Then::<Then<Then<Then<Then<Last<BITS>>>>>>::fold(scores, out);
     }
 }
 
 /// The soft values of a list, with its first turns written out one after the other.
 ///
-/// Where each turn has its own code, the compiler knows how long its lists are, and keeps short ones in vectors. From 128
-/// scores on a loop is faster.
+/// Where each turn has its own code, the compiler knows how long its lists are, and keeps short ones in vectors.
 trait Turns {
     fn fold(scores: &mut [i32], out: &mut [i32])
         requires some { 3 ≤ length out.old }
@@ -50,14 +48,14 @@ trait Turns {
 }
 
 /// No turn written out.
-struct Last;
+struct Last<const BITS: usize>;
 
 /// One turn written out before those of another.
 struct Then<T> {
     of: PhantomData<T>,
 }
 
-impl Turns for Last {
+impl<const BITS: usize> Turns for Last<BITS> {
     #[inline(always)]
     fn fold(scores: &mut [i32], out: &mut [i32]) {
         let m = out.len();

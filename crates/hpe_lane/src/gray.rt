@@ -15,7 +15,7 @@ use crate::plain;
 /// At place `v`, the sum of those `l[i]` at which bit `i` of `v` differs from the bit before it.
 #[inline(always)]
 pub fn gray_scores(l: &[i32], out: &mut [i32])
-    requires few { (2 ≤ length l.now) × (length l.now ≤ 8) }
+    requires few { (1 ≤ length l.now) × (length l.now ≤ 8) }
     requires size { length out.old ≡ 2 ^ length l.now }
     requires l { AllWithin clamp l.now }
     ensures { (v : ℕ) → v < 2 ^ length l.now → number_at out.new v ≡ gray_from 0 l.now v }

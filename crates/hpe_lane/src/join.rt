@@ -2,7 +2,7 @@
 //!
 //! Where all bits of a symbol are turned, so is its first input bit, and no other. So the edges of state 1, read
 //! backwards, have the input bits of those of state 0, and one list of the greater scores serves both.
-ghost use Rattle.std.specs.Prelude.{◌≡◌, ℕ, ◌%◌, length};
+ghost use Rattle.std.specs.Prelude.{◌≡◌, ◌%◌, length};
 ghost use Rattle.hpe_base.specs.Sizes.{AllWithin};
 ghost use Rattle.hpe_lane.specs.Bounds.{edge_most, IsRow, around_most};
 ghost use Rattle.hpe_lane.specs.Stages.{AreJoined};

@@ -22,7 +22,7 @@ pub(crate) fn mirror_eight(low: &[i32], high: &mut [i32], x: i32)
     requires eight { length low.now ≡ 8 }
     requires same { length high.old ≡ 8 }
     requires low { AllWithin (7 * clamp) low.now }
-    requires x { Within clamp x }
+    requires x { Within (5 * clamp) x }
     ensures { (j : ℕ) → j < 8 → number_at high.new j ≡ x +ℤ number_at low.now (7 - j) }
 {
     let sum = i32x8::from_slice(low).reverse() + i32x8::splat(x);

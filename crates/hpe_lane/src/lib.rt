@@ -2,8 +2,11 @@
 //! they score on its other side.
 //!
 //! Scores are compared eight at a time, in the lanes of a vector. [`plain`] has the same kernels without lanes.
+//! [`best_edges`] and [`step_by_best`] take a stage forward without a list of its edges, where a symbol has four bits or
+//! more; they have no plain form but that of the lists.
 #![tactic(auto)]
 
+mod best;
 mod ends;
 mod fold;
 mod gray;
@@ -11,14 +14,16 @@ mod join;
 mod lanes;
 mod outer;
 mod parity;
+mod parts;
 pub mod plain;
 mod stage;
 mod sweep;
 #[cfg(test)]
 mod tests;
 
+pub use best::{best_edges, step_by_best};
 pub use gray::{edge_scores, gray_scores};
 pub use outer::{outer_back, outer_forward};
 pub use parity::best_by_parity;
-pub use stage::{step_back, step_forward};
+pub use stage::{Stage, step_back, step_forward};
 pub use sweep::{WINDOW, sweep_rows};

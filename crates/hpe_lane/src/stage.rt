@@ -19,6 +19,13 @@ use crate::join::join;
 use hpe_base::Steps;
 use std::sync::ledger::Ledger;
 
+/// One stage: the counts and the numbers of its symbol.
+#[derive(Clone, Copy)]
+pub struct Stage<'a> {
+    pub counts: &'a [u16],
+    pub l: &'a [i32],
+}
+
 /// At place `b`, the greatest of `row[s] + from_s[v]` over both `s` and all `v` that end in `b`.
 #[inline(always)]
 pub fn step_forward<L: Ledger>(
@@ -44,9 +51,10 @@ pub fn step_forward<L: Ledger>(
     [even, odd]
 }
 
-/// The backward row before the stage, and the soft values of its input bits.
+/// The backward row before the stage, and the soft values of its input bits. A caller that gives each order its own
+/// `BITS` has a copy for each.
 #[inline(always)]
-pub fn step_back<L: Ledger>(
+pub fn step_back<L: Ledger, const BITS: usize>(
     fore: [i32; 2],
     from0: &[i32],
     from1: &[i32],
@@ -64,7 +72,7 @@ pub fn step_back<L: Ledger>(
 {
     steps.tick();
     let mut joint = [0; 256];
-    write_soft(fore, from0, from1, back, &mut joint[..from0.len()], out);
+    write_soft::<BITS>(fore, from0, from1, back, &mut joint[..from0.len()], out);
     let first = best_after(from0, back);
     let second = best_after(from1, back);
     [first, second]
@@ -87,7 +95,7 @@ fn best_after(from: &[i32], back: [i32; 2]) -> i32
 /// The edges of state 1 are read backwards: where all bits of a symbol are turned, so is its first input bit, and no
 /// other. With the other state the edge has the same input bits, so one list holds the better of the two.
 #[inline(always)]
-fn write_soft(
+fn write_soft<const BITS: usize>(
     fore: [i32; 2],
     from0: &[i32],
     from1: &[i32],
@@ -104,5 +112,5 @@ fn write_soft(
     let around0 = [fore[0] + back[0], fore[0] + back[1]];
     let around1 = [fore[1] + back[1], fore[1] + back[0]];
     join(from0, around0, from1, around1, joint);
-    fold_soft(joint, out);
+    fold_soft::<BITS>(joint, out);
 }

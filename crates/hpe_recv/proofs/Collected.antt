@@ -15,7 +15,7 @@ use Rattle.hpe_weave.proofs.Channels.{unchannel_none}
 use Rattle.hpe_rows.specs.Rows.{periods_in, rows_of, placed_rows}
 use Rattle.hpe_rows.specs.RowsState.{RowsState, HasRows}
 use Rattle.hpe_rows.proofs.SymbolRows.{rows_of-none}
-use Rattle.hpe_rows.proofs.WholePeriods.{channel_sums-stay, channel_sums-rows, length-channel_sums, length-rows-le}
+use Rattle.hpe_rows.proofs.WholePeriods.{channel_sums-rows, length-rows-le}
 use Rattle.hpe_recv.specs.Batching.{Batching, HasBatched, waiting, late_count}
 use Rattle.hpe_recv.specs.Delivering.{PutsPart}
 use Rattle.hpe_recv.specs.Settled.{verdicts_on, settled}
@@ -23,6 +23,7 @@ use Rattle.hpe_recv.specs.Streaming.{Streaming, HasWord, HasSettled, HasTaken, H
 use Rattle.hpe_recv.specs.StreamView.{IsStreaming}
 use Rattle.hpe_recv.specs.declared.stream.Stream.TheInside.{Inside}
 use Rattle.hpe_recv.proofs.WordRows.{sums_of, verdicts_begun, verdicts_word, word_more, word_whole, take_none}
+use Rattle.hpe_base.proofs.ReceivedRows.{length-channel_sums, channel_sums-stay}
 
 -- ---- how many verdicts there are
 

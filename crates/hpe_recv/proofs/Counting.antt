@@ -11,16 +11,11 @@ use Rattle.std.specs.Option.{is_some}
 use Rattle.hpe_base.specs.Lists.{tabulate}
 use Rattle.hpe_base.specs.Parameters.{Parameters}
 use Rattle.hpe_base.specs.Counts.{count_at, counts_of}
-use Rattle.hpe_base.proofs.Tabulated.{length-tabulate, tabulate-none}
-use Rattle.hpe_base.proofs.Counts.{counts_of-append}
+use Rattle.hpe_base.proofs.Tabulated.{tabulate-none}
+use Rattle.hpe_base.proofs.Counts.{counts_of-append, length-counts_of}
 use Rattle.hpe_io.specs.Intake.{HasCome}
 use Rattle.hpe_io.proofs.Taking.{stopped_within}
 use Rattle.hpe_recv.specs.Counting.{CountIntakeState, HasCounted, HasCountedPart, half_octets}
-
--- so many counts are whole
-pub length-counts_of : (p : Parameters) (octets : List ℕ) → length (counts_of p octets) ≡ length octets / p.count_octets
-unfolding counts_of
-length-counts_of p octets = length-tabulate (length octets / p.count_octets) (count_at p.count_octets octets)
 
 -- less than a count is none
 pub counts_of-less : (p : Parameters) (octets : List ℕ) → length octets < p.count_octets → counts_of p octets ≡ []

@@ -12,7 +12,8 @@ use Rattle.hpe_base.specs.ReceivedWords.{groups_of}
 use Rattle.hpe_base.specs.Rounds.{Verdict, verdict_of}
 use Rattle.hpe_recv.specs.Settled.{verdicts_on}
 use Rattle.hpe_recv.specs.Streaming.{HasWord, begun}
-use Rattle.hpe_recv.proofs.Groups.{begun_more, begun_none, groups_same, groups_more, within, last}
+use Rattle.hpe_recv.proofs.Groups.{begun_more, begun_none, groups_more}
+use Rattle.hpe_base.proofs.Groups.{within, last, groups_same}
 
 -- the sums of lists of rows
 abbrev pub sums_of : List (List ℕ) → List ℕ

@@ -7,12 +7,13 @@ use Rattle.hpe_base.specs.Lists.{tabulate}
 use Rattle.hpe_base.specs.Parameters.{Parameters, IsValid, symbol_slots, period_symbols, codeword_symbols}
 use Rattle.hpe_base.specs.ChannelInterleaver.{deinterleaved_channel}
 use Rattle.hpe_base.specs.ReceivedWords.{received_sums}
-use Rattle.hpe_base.proofs.ParameterLemmas.{codeword_symbols-ge}
+use Rattle.hpe_base.proofs.ParameterLemmas.{codeword_symbols-ge, symbol_slots-pos}
 use Rattle.hpe_weave.specs.Unweaving.{Unweaving, HasUnwoven}
 use Rattle.hpe_weave.proofs.WeaverLemmas.{next_row}
 use Rattle.hpe_rows.specs.Rows.{symbols_in, rows_in, rows_of, placed_rows, row_if}
 use Rattle.hpe_rows.specs.RowsState.{RowsState, HasPassed, HasRows, whole_symbols, begun_symbol}
-use Rattle.hpe_rows.proofs.SymbolRows.{AreSymbols, received_sums-front, some_slots, tabulate-agree}
+use Rattle.hpe_rows.proofs.SymbolRows.{AreSymbols, received_sums-front}
+use Rattle.hpe_base.proofs.Tabulated.{tabulate-same}
 
 -- counts that are whole symbols and less than a symbol more
 record IsCut (p : Parameters) (whole begun : List ℕ) : Type 0 where
@@ -41,7 +42,7 @@ has_at s whole begun h e short =
 
 -- before the first count
 pub has_none : (s : RowsState) → HasPassed s.parameters s.unweaver s.symbol [] → s.begun ≡ [] → HasRows s []
-has_none s h none = has_at s [] [] h none (some_slots s.parameters h.valid)
+has_none s h none = has_at s [] [] h none (symbol_slots-pos s.parameters h.valid)
 
 -- more counts: with them the rest of a symbol that is begun, or a whole one
 pub joins : (s : RowsState) (seen part slots : List ℕ) → HasRows s seen → slots ≡ s.begun ++ part → seen ++ part ≡ whole_symbols s.parameters seen ++ slots
@@ -64,7 +65,7 @@ passed_more p u u' symbol symbol' seen slots h one next unwoven =
     let n : ℕ = symbols_in p seen in
     let size : ℕ = symbol_slots p in
     let long : length (seen ++ slots) ≡ (n + 1) * size + 0 = (let up : (n + 1) * size ≡ n * size + size = grind arith in omega (arith, length-append seen slots, h.whole)) in
-    let count : symbols_in p (seen ++ slots) ≡ n + 1 = ap (λ k. k / size) long ∙ div-mul-add (n + 1) size 0 (some_slots p h.valid) in
+    let count : symbols_in p (seen ++ slots) ≡ n + 1 = ap (λ k. k / size) long ∙ div-mul-add (n + 1) size 0 (symbol_slots-pos p h.valid) in
     record {
       valid = h.valid;
       whole = long ∙ (let e : (n + 1) * size + 0 ≡ (n + 1) * size = omega arith in e) ∙ ap (λ k. k * size) (sym count);
@@ -85,7 +86,7 @@ has_symbol s u next seen part slots begun h w unwoven none =
     let whole : List ℕ = whole_symbols p seen in
     let new : RowsState = record s { unweaver = u; symbol = next; begun = begun } in
     subst (λ (x : List ℕ). HasRows new x) (append-nil (whole ++ slots) ∙ sym (joins s seen part slots h w.counts))
-    (has_at new (whole ++ slots) [] (passed_more p s.unweaver u s.symbol next whole slots h.passed w.one w.place unwoven) none (some_slots p h.passed.valid))
+    (has_at new (whole ++ slots) [] (passed_more p s.unweaver u s.symbol next whole slots h.passed w.one w.place unwoven) none (symbol_slots-pos p h.passed.valid))
 
 -- counts of a symbol that isn't whole bring no row
 rows-whole : (p : Parameters) (seen : List ℕ) → IsValid p → rows_of p (whole_symbols p seen) ≡ rows_of p seen
@@ -95,7 +96,7 @@ rows-whole p seen valid =
     let size : ℕ = symbol_slots p in
     let whole : List ℕ = whole_symbols p seen in
     let rest : List ℕ = begun_symbol p seen in
-    let some : 0 < size = some_slots p valid in
+    let some : 0 < size = symbol_slots-pos p valid in
     let high : 1890 ≤ codeword_symbols p.order = codeword_symbols-ge p.order in
     let fits : n * size + length seen % size ≡ length seen = div-add-mod' (length seen) size in
     let long : length whole ≡ n * size = omega (arith, length-take (n * size) seen) in
@@ -108,7 +109,7 @@ rows-whole p seen valid =
       size = long ∙ ap (λ m. m * size) (sym cut);
     } in
     ap (λ m. tabulate (rows_in p m) (received_sums p whole 0)) count
-    ∙ tabulate-agree (rows_in p n) _ _ (λ t below.
+    ∙ tabulate-same (rows_in p n) _ _ (λ t below.
     sym (received_sums-front p (n / period_symbols p) (n % period_symbols p) whole rest t a below) ∙ ap (λ l. received_sums p l 0 t) (take-append-drop (n * size) seen))
 
 -- and so more of them bring none

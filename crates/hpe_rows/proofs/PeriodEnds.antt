@@ -8,8 +8,9 @@ use Rattle.std.proofs.lemmas.List.{take-append-drop, length-drop}
 use Rattle.hpe_base.specs.Parameters.{symbol_slots, period_symbols, period_slots}
 use Rattle.hpe_rows.specs.Rows.{symbols_in, periods_in}
 use Rattle.hpe_rows.specs.RowsState.{RowsState, HasRows, whole_symbols}
-use Rattle.hpe_rows.proofs.SymbolRows.{AreSymbols, are_symbols, some_slots}
+use Rattle.hpe_rows.proofs.SymbolRows.{AreSymbols, are_symbols}
 use Rattle.hpe_rows.proofs.Parts.{joins, IsWhole}
+use Rattle.hpe_base.proofs.ParameterLemmas.{symbol_slots-pos}
 
 -- q periods of so many symbols of so many slots, r symbols and one more
 up_to : (q r n size : ℕ) → r < n → (q * n + r) * size + size ≤ (q + 1) * (n * size)
@@ -60,7 +61,7 @@ module _ (s : RowsState) (seen part : List ℕ) (h : HasRows s seen) where
   short : length s.begun < symbol_slots s.parameters
   short =
       let size : ℕ = symbol_slots s.parameters in
-      let some : 0 < size = some_slots s.parameters h.passed.valid in
+      let some : 0 < size = symbol_slots-pos s.parameters h.passed.valid in
       let cut : symbols_in s.parameters seen * size + length seen % size ≡ length seen = div-add-mod' (length seen) size in
       let low : length seen % size < size = mod_below (length seen) size some in
       omega (arith, ap (λ (l : List ℕ). length l) h.begun, length-drop (symbols_in s.parameters seen * size) seen)

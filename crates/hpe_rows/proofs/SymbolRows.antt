@@ -1,21 +1,18 @@
 -- The rows of counts as they come symbol by symbol.
 use Rattle.std.proofs.Common.{◌≡◌, ◌+◌, ◌-◌, ◌*◌, ◌/◌, ◌%◌, ◌<◌, ◌≤◌, ◌++◌, ℕ, List, [], ◌∷◌, length, ap, ap₂, sym, subst, ◌∙◌, arith, inl, inr}
-use Rattle.std.proofs.lemmas.Nat.{div-mul-add, mod-mul-add, div-add-mod', mod_below, mul-le}
+use Rattle.std.proofs.lemmas.Nat.{div-mul-add, mod-mul-add, div-add-mod', mod_below}
 use Rattle.std.proofs.lemmas.Bool.{cases_lt}
 use Rattle.std.proofs.lemmas.List.{length-append, nil_from_length}
 use Rattle.hpe_base.specs.Lists.{tabulate}
-use Rattle.hpe_base.specs.Parameters.{Parameters, IsValid, positions, sending_slots, symbol_slots, period_symbols, period_slots, codeword_symbols}
+use Rattle.hpe_base.specs.Parameters.{Parameters, IsValid, symbol_slots, period_symbols, period_slots, codeword_symbols}
 use Rattle.hpe_base.specs.ReceivedWords.{symbol_sums, received_sums}
-use Rattle.hpe_base.proofs.Tabulated.{tabulate-more, length-tabulate, get_or-tabulate, tabulate_from_places}
-use Rattle.hpe_base.proofs.ParameterLemmas.{codeword_symbols-ge, positions-lt}
+use Rattle.hpe_base.proofs.Tabulated.{tabulate-more, length-tabulate, tabulate-same}
+use Rattle.hpe_base.proofs.ParameterLemmas.{codeword_symbols-ge, symbol_slots-pos}
 use Rattle.hpe_weave.specs.Unweaving.{Unweaving, HasUnwoven}
 use Rattle.hpe_rows.specs.Rows.{symbols_in, rows_in, rows_of}
 use Rattle.hpe_rows.specs.RowsState.{HasPassed}
-use Rattle.hpe_base.proofs.SymbolSums.{symbol_sums-front, symbol_sums-behind}
-
--- lists by places whose values agree
-pub tabulate-agree : {X : Type 0} (n : ℕ) (f g : ℕ → X) → ((k : ℕ) → k < n → f k ≡ g k) → tabulate n f ≡ tabulate n g
-tabulate-agree n f g same = tabulate_from_places n g (tabulate n f) (f 0) (length-tabulate n f) (λ k below. get_or-tabulate n f k (f 0) below ∙ same k below)
+use Rattle.hpe_base.proofs.SymbolSums.{symbol_sums-behind}
+use Rattle.hpe_base.proofs.ReceivedRows.{received_sums-stay}
 
 -- counts that are n whole symbols, of which q periods and r symbols more
 pub record AreSymbols (p : Parameters) (q r : ℕ) (seen : List ℕ) : Type 0 where
@@ -33,42 +30,6 @@ symbols_are p q r seen a =
 pub rows_are : (p : Parameters) (q r : ℕ) → r < period_symbols p → rows_in p (q * period_symbols p + r) ≡ q * codeword_symbols p.order + (r - length p.marker)
 rows_are p q r below =
     ap₂ (λ a b. a * codeword_symbols p.order + (b - length p.marker)) (div-mul-add q (period_symbols p) r below) (mod-mul-add q (period_symbols p) r below)
-
--- the symbol of a row comes within the symbols
-row_place : (q r s k t g i : ℕ) → t ≡ g * s + i → i < s → r < k + s → t < q * s + (r - k) → g * (k + s) + (k + i) < q * (k + s) + r
-row_place q r s k t g i is low below more = elim (cases_lt g q) [
-  | inl early ↦
-      let up : (g + 1) * (k + s) ≤ q * (k + s) = mul-le (g + 1) (k + s) q (k + s) (omega arith) (omega arith) in
-      let one : (g + 1) * (k + s) ≡ g * (k + s) + (k + s) = grind arith in
-      omega arith
-  | inr late ↦ elim (cases_lt q g) [
-    | inl far ↦
-        let up : (q + 1) * s ≤ g * s = mul-le (q + 1) s g s (omega arith) (omega arith) in
-        let one : (q + 1) * s ≡ q * s + s = grind arith in
-        absurd (omega arith)
-    | inr near ↦
-        let e : g ≡ q = omega arith in
-        let a : g * s ≡ q * s = ap (λ x. x * s) e in
-        let b : g * (k + s) ≡ q * (k + s) = ap (λ x. x * (k + s)) e in
-        omega arith
-  ]
-]
-
--- counts behind q periods and r symbols don't change a row of these
-pub received_sums-stay : (p : Parameters) (q r : ℕ) (seen more : List ℕ) (t : ℕ) → r < period_symbols p → (q * period_symbols p + r) * symbol_slots p ≤ length seen
-    → t < q * codeword_symbols p.order + (r - length p.marker) → received_sums p (seen ++ more) 0 t ≡ received_sums p seen 0 t
-received_sums-stay p q r seen more t short fits below =
-    let s : ℕ = codeword_symbols p.order in
-    let k : ℕ = length p.marker in
-    let size : ℕ = symbol_slots p in
-    let g : ℕ = t / s in
-    let i : ℕ = t % s in
-    let some : 0 < s = omega (arith, codeword_symbols-ge p.order) in
-    let is : t ≡ g * s + i = sym (div-add-mod' t s) in
-    let early : g * (k + s) + (k + i) < q * (k + s) + r = row_place q r s k t g i is (mod_below t s some) short below in
-    let up : (g * (k + s) + (k + i) + 1) * size ≤ (q * (k + s) + r) * size = mul-le (g * (k + s) + (k + i) + 1) size (q * (k + s) + r) size (omega arith) (omega arith) in
-    let place : (g * (k + s) + (k + i) + 1) * size ≡ 0 + g * ((k + s) * size) + (k + i) * size + size = grind arith in
-    symbol_sums-front p seen more (0 + g * period_slots p + (k + i) * size) (omega arith)
 
 pub received_sums-front : (p : Parameters) (q r : ℕ) (seen more : List ℕ) (t : ℕ) → AreSymbols p q r seen → t < q * codeword_symbols p.order + (r - length p.marker)
     → received_sums p (seen ++ more) 0 t ≡ received_sums p seen 0 t
@@ -88,7 +49,7 @@ rows_of-marker p q r seen slots a one early =
     let old : rows_in p (symbols_in p seen) ≡ q * s + 0 = ap (rows_in p) (symbols_are p q r seen a) ∙ rows_are p q r a.below ∙ (let e : r - length p.marker ≡ 0 = omega arith in ap (λ x. q * s + x) e) in
     let new : rows_in p (symbols_in p (seen ++ slots)) ≡ q * s + 0 = ap (rows_in p) (symbols_are p q (r + 1) (seen ++ slots) next) ∙ rows_are p q (r + 1) next.below ∙ (let e : (r + 1) - length p.marker ≡ 0 = omega arith in ap (λ x. q * s + x) e) in
     ap (λ n. tabulate n (received_sums p (seen ++ slots) 0)) (new ∙ sym old)
-    ∙ tabulate-agree (rows_in p (symbols_in p seen)) _ _ (λ t below. received_sums-front p q r seen slots t a (omega (arith, old)))
+    ∙ tabulate-same (rows_in p (symbols_in p seen)) _ _ (λ t below. received_sums-front p q r seen slots t a (omega (arith, old)))
 
 -- another symbol brings its own
 rows_of-row : (p : Parameters) (q r : ℕ) (seen slots : List ℕ) → AreSymbols p q r seen → length slots ≡ symbol_slots p → length p.marker ≤ r
@@ -123,20 +84,13 @@ rows_of-row p q r seen slots a one late =
     ap (λ m. tabulate m (received_sums p (seen ++ slots) 0)) new
     ∙ tabulate-more n (received_sums p (seen ++ slots) 0)
     ∙ ap₂ (λ xs x. xs ++ x ∷ [])
-    (tabulate-agree n _ _ (λ t below. received_sums-front p q r seen slots t a below) ∙ ap (λ m. tabulate m (received_sums p seen 0)) (sym old))
+    (tabulate-same n _ _ (λ t below. received_sums-front p q r seen slots t a below) ∙ ap (λ m. tabulate m (received_sums p seen 0)) (sym old))
     (ap (symbol_sums p (seen ++ slots)) place ∙ symbol_sums-behind p seen slots)
 
 -- how many rows have come
 length-rows : (p : Parameters) (q r : ℕ) (seen : List ℕ) → AreSymbols p q r seen → length (rows_of p seen) ≡ q * codeword_symbols p.order + (r - length p.marker)
 unfolding rows_of
 length-rows p q r seen a = length-tabulate _ _ ∙ ap (rows_in p) (symbols_are p q r seen a) ∙ rows_are p q r a.below
-
--- a symbol has slots
-pub some_slots : (p : Parameters) → IsValid p → 0 < symbol_slots p
-some_slots p v =
-    let narrow : positions p.order < sending_slots p.order = positions-lt p.order in
-    let up : 1 * 1 ≤ p.repeat * sending_slots p.order = mul-le 1 1 p.repeat (sending_slots p.order) v.range.repeat_low (omega arith) in
-    omega arith
 
 -- what has passed are whole symbols
 pub are_symbols : (p : Parameters) (u : Unweaving) (symbol : ℕ) (seen : List ℕ) → HasPassed p u symbol seen → AreSymbols p (symbols_in p seen / period_symbols p) symbol seen
@@ -145,7 +99,7 @@ are_symbols p u symbol seen h =
     let n : ℕ = symbols_in p seen in
     let cut : n / period_symbols p * period_symbols p + n % period_symbols p ≡ n = div-add-mod' n (period_symbols p) in
     record {
-      some = some_slots p h.valid;
+      some = symbol_slots-pos p h.valid;
       below = subst (λ k. k < period_symbols p) (sym h.place) (mod_below n (period_symbols p) (omega arith));
       size = h.whole ∙ ap (λ k. k * symbol_slots p) (sym cut ∙ ap (λ k. n / period_symbols p * period_symbols p + k) (sym h.place));
     }
@@ -165,7 +119,7 @@ passed-row p u symbol seen slots row h one late sums =
 no-symbols : (p : Parameters) → IsValid p → AreSymbols p 0 0 []
 no-symbols p v =
     let some : 1890 ≤ codeword_symbols p.order = codeword_symbols-ge p.order in
-    record { some = some_slots p v; below = omega arith; size = (let e : 0 ≡ (0 * period_symbols p + 0) * symbol_slots p = grind arith in e) }
+    record { some = symbol_slots-pos p v; below = omega arith; size = (let e : 0 ≡ (0 * period_symbols p + 0) * symbol_slots p = grind arith in e) }
 
 pub rows_of-none : (p : Parameters) → IsValid p → rows_of p [] ≡ []
 rows_of-none p v =

@@ -1,63 +1,16 @@
 -- The rows of whole periods among those of all counts.
-use Rattle.std.proofs.Common.{◌≡◌, ◌+◌, ◌-◌, ◌*◌, ◌/◌, ◌%◌, ◌<◌, ◌≤◌, ◌++◌, ℕ, List, length, take, ap, sym, ◌∙◌, arith, inl, inr, length-append}
-use Rattle.std.proofs.Math.Nat.{le-div_iff_mul-le, div-mul-le_self, mul-le-mul_right}
+use Rattle.std.proofs.Common.{◌≡◌, ◌+◌, ◌-◌, ◌*◌, ◌/◌, ◌%◌, ◌<◌, ◌≤◌, ℕ, List, length, ap, sym, ◌∙◌, arith, inl, inr}
+use Rattle.std.proofs.Math.Nat.{div-mul-le_self}
 use Rattle.std.proofs.lemmas.Nat.{div-mul-add, div-add-mod', mod_below, mul-le}
 use Rattle.std.proofs.lemmas.Bool.{cases_lt}
-use Rattle.std.proofs.lemmas.List.{length-take-le, get_or-take, take_all}
 use Rattle.hpe_base.specs.Lists.{tabulate}
 use Rattle.hpe_base.specs.Parameters.{Parameters, IsValid, symbol_slots, period_symbols, period_slots, codeword_symbols}
 use Rattle.hpe_base.specs.ReceivedWords.{received_sums, channel_sums}
-use Rattle.hpe_base.proofs.Tabulated.{length-tabulate, get_or-tabulate, tabulate_from_places}
-use Rattle.hpe_base.proofs.ParameterLemmas.{codeword_symbols-ge, period-pos}
+use Rattle.hpe_base.proofs.Tabulated.{length-tabulate}
+use Rattle.hpe_base.proofs.ParameterLemmas.{codeword_symbols-ge, period-pos, symbol_slots-pos}
 use Rattle.hpe_rows.specs.Rows.{symbols_in, periods_in, rows_in, rows_of}
-use Rattle.hpe_rows.proofs.SymbolRows.{AreSymbols, tabulate-agree, received_sums-stay, symbols_are, rows_are, some_slots}
-
--- the front of a list by places
-pub take-tabulate : {X : Type 0} (m n : ℕ) (f : ℕ → X) → m ≤ n → take m (tabulate n f) ≡ tabulate m f
-take-tabulate m n f h =
-    tabulate_from_places m f (take m (tabulate n f)) (f 0) (length-take-le m (tabulate n f) (omega (arith, length-tabulate n f)))
-    (λ k below. get_or-take m (tabulate n f) k (f 0) below ∙ get_or-tabulate n f k (f 0) (omega arith))
-
--- the rows of whole periods by places
-channel_sums-are : (p : Parameters) (seen : List ℕ) → channel_sums p seen 0 ≡ tabulate (periods_in p seen * codeword_symbols p.order) (received_sums p seen 0)
-unfolding channel_sums
-channel_sums-are p seen =
-    let all : length seen - 0 ≡ length seen = omega arith in ap (λ n. tabulate (n / period_slots p * codeword_symbols p.order) (received_sums p seen 0)) all
-
--- how many there are
-pub length-channel_sums : (p : Parameters) (seen : List ℕ) → length (channel_sums p seen 0) ≡ periods_in p seen * codeword_symbols p.order
-length-channel_sums p seen = ap (λ (rows : List (List ℕ)). length rows) (channel_sums-are p seen) ∙ length-tabulate _ _
-
--- they stand at the front where more counts come
-pub channel_sums-front : (p : Parameters) (seen more : List ℕ) → IsValid p
-    → channel_sums p seen 0 ≡ take (periods_in p seen * codeword_symbols p.order) (channel_sums p (seen ++ more) 0)
-channel_sums-front p seen more v =
-    let s : ℕ = codeword_symbols p.order in
-    let q : ℕ = periods_in p seen in
-    let wide : 1890 ≤ s = codeword_symbols-ge p.order in
-    let some : 0 < period_slots p = period-pos p v in
-    let f : ℕ → List ℕ = received_sums p (seen ++ more) 0 in
-    let fits : q * period_slots p ≤ length seen = div-mul-le_self (length seen) (period_slots p) in
-    let room : (q * period_symbols p + 0) * symbol_slots p ≤ length seen = (let e : (q * period_symbols p + 0) * symbol_slots p ≡ q * (period_symbols p * symbol_slots p) = grind arith in omega arith) in
-    let up : q ≤ periods_in p (seen ++ more) = (le-div_iff_mul-le some).1 (omega (arith, length-append seen more)) in
-    let rows : q * s ≤ periods_in p (seen ++ more) * s = mul-le-mul_right s up in
-    channel_sums-are p seen
-    ∙ tabulate-agree (q * s) _ _ (λ t below. sym (received_sums-stay p q 0 seen more t (omega arith) room (omega arith)))
-    ∙ sym (take-tabulate (q * s) (periods_in p (seen ++ more) * s) f rows)
-    ∙ ap (take (q * s)) (sym (channel_sums-are p (seen ++ more)))
-
--- and are the same until a period ends
-pub channel_sums-stay : (p : Parameters) (seen more : List ℕ) → IsValid p → length (seen ++ more) < (periods_in p seen + 1) * period_slots p
-    → channel_sums p (seen ++ more) 0 ≡ channel_sums p seen 0
-channel_sums-stay p seen more v less =
-    let q : ℕ = periods_in p seen in
-    let fits : q * period_slots p ≤ length seen = div-mul-le_self (length seen) (period_slots p) in
-    let long : length (seen ++ more) ≡ length seen + length more = length-append seen more in
-    let next : (q + 1) * period_slots p ≡ q * period_slots p + period_slots p = grind arith in
-    let cut : length (seen ++ more) ≡ q * period_slots p + (length (seen ++ more) - q * period_slots p) = omega arith in
-    let same : periods_in p (seen ++ more) ≡ q = ap (λ n. n / period_slots p) cut ∙ div-mul-add q (period_slots p) (length (seen ++ more) - q * period_slots p) (omega arith) in
-    let all : length (channel_sums p (seen ++ more) 0) ≡ q * codeword_symbols p.order = length-channel_sums p (seen ++ more) ∙ ap (λ n. n * codeword_symbols p.order) same in
-    sym (channel_sums-front p seen more v ∙ take_all (q * codeword_symbols p.order) (channel_sums p (seen ++ more) 0) (omega arith))
+use Rattle.hpe_rows.proofs.SymbolRows.{AreSymbols, symbols_are, rows_are}
+use Rattle.hpe_base.proofs.ReceivedRows.{channel_sums-are}
 
 -- where all periods are whole they are all rows
 pub channel_sums-rows : (p : Parameters) (q : ℕ) (seen : List ℕ) → IsValid p → length seen ≡ q * period_slots p → channel_sums p seen 0 ≡ rows_of p seen
@@ -66,7 +19,7 @@ channel_sums-rows p q seen v long =
     let s : ℕ = codeword_symbols p.order in
     let wide : 1890 ≤ s = codeword_symbols-ge p.order in
     let a : AreSymbols p q 0 seen = record {
-      some = some_slots p v;
+      some = symbol_slots-pos p v;
       below = omega arith;
       size = long ∙ (let e : q * (period_symbols p * symbol_slots p) ≡ (q * period_symbols p + 0) * symbol_slots p = grind arith in e);
     } in
@@ -103,7 +56,7 @@ pub length-rows-le : (p : Parameters) (q : ℕ) (seen : List ℕ) → IsValid p 
 unfolding rows_of
 length-rows-le p q seen v most =
     let wide : 1890 ≤ codeword_symbols p.order = codeword_symbols-ge p.order in
-    let some : 0 < symbol_slots p = some_slots p v in
+    let some : 0 < symbol_slots p = symbol_slots-pos p v in
     let same : q * (period_symbols p * symbol_slots p) ≡ q * period_symbols p * symbol_slots p = grind arith in
     let n : ℕ = symbols_in p seen in
     let fits : n * symbol_slots p ≤ length seen = div-mul-le_self (length seen) (symbol_slots p) in

@@ -4,7 +4,7 @@
 //! A symbol that is whole in a piece is worked off where it stands; only of one that is begun the counts are kept. A
 //! row that leaves the interleaver is put straight where the caller wants it.
 ghost use Rattle.std.specs.Prelude.{◌≡◌, ◌≤◌, ◌<◌, ◌+◌, ◌*◌, ◌/◌, ◌^◌, ◌++◌, ◌↔◌, [], All, IfOk, IsTrue, false, length, take};
-ghost use Rattle.hpe_base.specs.Parameters.{clamp, interleaver_depth, period_slots, period_symbols, positions, symbol_slots};
+ghost use Rattle.hpe_base.specs.Parameters.{clamp, interleaver_depth, period_slots, positions, symbol_slots};
 ghost use Rattle.hpe_rows.specs.Rows.{periods_in, placed_rows, row_if, rows_of};
 ghost use Rattle.hpe_rows.specs.RowsState.{HasPassed, HasRows};
 ghost use Rattle.hpe_weave.specs.Unweaving.{HasUnwoven, waiting_in};

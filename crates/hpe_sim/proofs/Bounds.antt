@@ -1,10 +1,8 @@
 -- Bounds on the slots of a simulation.
-use Rattle.std.proofs.Common.{◌≡◌, ◌≤◌, ◌<◌, ◌+◌, ◌*◌, ◌^◌, ◌∙◌, ℕ, arith, ap, ap₂, inl, inr}
+use Rattle.std.proofs.Common.{◌≡◌, ◌≤◌, ◌+◌, ◌*◌, ◌^◌, ◌∙◌, ℕ, arith, ap, ap₂}
 use Rattle.std.specs.Int.{div_ceil}
 use Rattle.std.proofs.Math.Pow.{pow_pos}
 use Rattle.std.proofs.lemmas.Nat.{mul-le}
-use Rattle.std.proofs.lemmas.Bool.{cases_lt}
-use Rattle.std.proofs.lemmas.Grind.{div_ceil_times}
 use Rattle.hpe_base.specs.declared.measures.Measures.{Measures}
 use Rattle.hpe_base.specs.Geometry.{measures_of}
 use Rattle.hpe_base.specs.Parameters.{Parameters, IsValid, positions, symbol_bits, block_bits, interleaver_depth, codeword_symbols}
@@ -12,19 +10,7 @@ use Rattle.hpe_base.specs.FrameScan.{span_bits}
 use Rattle.hpe_base.specs.Slots.{flush_words}
 use Rattle.hpe_base.proofs.ParameterLemmas.{block_bits-pos, codeword_symbols-ge, period-le, period_is}
 use Rattle.hpe_sim.specs.Simulated.{words_for}
-
--- a quotient that is rounded up is no more than what is divided
-ceil_le : (n d : ℕ) → 0 < d → div_ceil n d ≤ n
-ceil_le n d some =
-    let x = div_ceil_times n d some in
-    elim (cases_lt n (div_ceil n d)) [
-      | inl less ↦
-          let up : (n + 1) * d ≤ div_ceil n d * d = mul-le (n + 1) d (div_ceil n d) d (omega arith) (omega arith) in
-          let two : (n + 1) * d ≡ n * d + d = grind arith in
-          let one : n * 1 ≤ n * d = mul-le n 1 n d (omega arith) (omega arith) in
-          absurd (omega (arith, x.1))
-      | inr le ↦ le
-    ]
+use Rattle.hpe_base.proofs.SentSlots.{ceil_le}
 
 -- few codewords flush the channel interleaver
 flush_few : (p : Parameters) → IsValid p → flush_words p ≤ 2 ^ 26

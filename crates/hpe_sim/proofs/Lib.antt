@@ -1,6 +1,5 @@
 mod Words
 mod Octets
-mod Fits
 mod Sizes
 mod Bounds
 mod Sent

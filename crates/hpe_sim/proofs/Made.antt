@@ -2,7 +2,7 @@
 use Rattle.std.proofs.Common.{◌≡◌, ◌≤◌, ◌<◌, ◌+◌, ◌*◌, ◌/◌, ◌%◌, ◌^◌, ◌∙◌, ℕ, List, length, take, sum, refl, arith, ap, sym}
 use Rattle.std.proofs.lemmas.Nat.{div-mul-add, mul-le}
 use Rattle.std.proofs.lemmas.List.{length-take, length-map}
-use Rattle.std.proofs.Math.Nat.{mul-mod_left, div-mul-le_self}
+use Rattle.std.proofs.Math.Nat.{mul-mod_left, div-mul-le_self, le-div_iff_mul-le}
 use Rattle.hpe_base.specs.Counts.{counts_of}
 use Rattle.hpe_base.specs.Decoded.{decoded}
 use Rattle.hpe_base.specs.Parameters.{Parameters, IsValid, period_slots, block_bits}
@@ -11,8 +11,9 @@ use Rattle.hpe_base.specs.ChannelInterleaver.{interleaved_channel}
 use Rattle.hpe_base.proofs.ParameterLemmas.{codeword_symbols-ge, period-pos}
 use Rattle.hpe_sim.specs.declared.task.Task.{Task}
 use Rattle.hpe_sim.specs.Simulated.{channel_counts, count_octets_of, generator, sim_counts, sim_octets, sim_slots, slots_for, words_of}
-use Rattle.hpe_sim.proofs.Fits.{decoded_fits, quotient}
-use Rattle.hpe_sim.proofs.Octets.{counts_of-octets, length-channel_counts, length-count_octets_of, length-counts_of, octets-own, sum-count_octets_of}
+use Rattle.hpe_base.proofs.DecodedSize.{decoded_fits}
+use Rattle.hpe_base.proofs.Counts.{length-counts_of}
+use Rattle.hpe_sim.proofs.Octets.{counts_of-octets, length-channel_counts, length-count_octets_of, octets-own, sum-count_octets_of}
 use Rattle.hpe_sim.proofs.Sizes.{slots_are}
 use Rattle.hpe_sim.proofs.Words.{length-words}
 
@@ -92,12 +93,12 @@ room_for p octets slots n v e =
     let fit = decoded_fits p (take n octets) (omega (arith, codeword_symbols-ge p.order)) some in
     let small : length (take n octets) / w * w ≤ length (take n octets) = div-mul-le_self (length (take n octets)) w in
     let shorter : length (take n octets) / w ≤ length octets / w =
-    quotient (length octets) w (length (take n octets) / w) v.range.count_octets_low (omega (arith, length-take n octets)) in
+    (le-div_iff_mul-le v.range.count_octets_low).1 (omega (arith, length-take n octets)) in
     let few : front ≤ slots = omega (arith, length-counts_of p (take n octets), length-counts_of p octets) in
     let back : front / period_slots p * period_slots p ≤ front = div-mul-le_self front (period_slots p) in
-    let fewer : front / period_slots p ≤ slots / period_slots p = quotient slots (period_slots p) (front / period_slots p) some (omega arith) in
+    let fewer : front / period_slots p ≤ slots / period_slots p = (le-div_iff_mul-le some).1 (omega arith) in
     let all : front / period_slots p * block_bits p.rate ≤ slots / period_slots p * block_bits p.rate =
     mul-le (front / period_slots p) (block_bits p.rate) (slots / period_slots p) (block_bits p.rate) fewer (omega arith) in
     let less : length (decoded p (take n octets)) ≤ slots / period_slots p * block_bits p.rate / 8 =
-    quotient (slots / period_slots p * block_bits p.rate) 8 (length (decoded p (take n octets))) (omega arith) (omega arith) in
+    (let eight : 0 < 8 = omega arith in (le-div_iff_mul-le eight).1 (omega arith)) in
     omega arith

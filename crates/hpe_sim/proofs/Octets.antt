@@ -1,59 +1,16 @@
 -- Counts as octets.
-use Rattle.std.proofs.Common.{◌≡◌, ◌≤◌, ◌<◌, ◌+◌, ◌-◌, ◌*◌, ◌/◌, ◌%◌, ◌==◌, ◌∙◌, ◌++◌, ◌∷◌, [], ℕ, zero, suc, List, length, get_or, sum, refl, arith, ap, ap₂, sym, append-nil, if◌then◌else◌, true}
+use Rattle.std.proofs.Common.{◌≡◌, ◌<◌, ◌+◌, ◌-◌, ◌*◌, ◌/◌, ◌%◌, ◌==◌, ◌∙◌, ◌++◌, [], ℕ, List, length, get_or, sum, arith, ap, ap₂, sym, if◌then◌else◌}
 use Rattle.std.specs.List.{flat_map}
-use Rattle.std.proofs.lemmas.Bool.Decides.{nat_tests}
-use Rattle.std.proofs.lemmas.List.Concat.{flat_map-append}
-use Rattle.std.proofs.lemmas.List.Sums.{sum_by-append, sum_by-cons}
-use Rattle.std.proofs.lemmas.Nat.{div_below, div-mul-add, mod-mul-add}
+use Rattle.std.proofs.lemmas.Nat.{div_below}
 use Rattle.std.proofs.lemmas.Simd.{get_or-zip2, length-zip2}
 use Rattle.hpe_base.specs.Counts.{counts_of, low_octet}
 use Rattle.hpe_base.specs.Lists.{tabulate}
 use Rattle.hpe_base.specs.Parameters.{Parameters, IsValid}
-use Rattle.hpe_base.proofs.Counts.{counts_of-slots, octets-flat, slot_octets}
-use Rattle.hpe_base.proofs.Tabulated.{get_or-tabulate, length-tabulate, tabulate-more, tabulate-none, tabulate-same, tabulate_from_places}
+use Rattle.hpe_base.proofs.Counts.{counts_of-slots, octets-flat, slot_octets, octets-more, get_or-octets, length-counts_of, sum-slot_octets}
+use Rattle.hpe_base.proofs.Tabulated.{get_or-tabulate, length-tabulate, tabulate-none, tabulate-same, tabulate-places}
 use Rattle.hpe_sim.specs.declared.task.Task.{Task}
 use Rattle.hpe_sim.specs.Simulated.{channel_counts, count_of, count_octets_of, generator, words_of}
 use Rattle.hpe_sim.proofs.Words.{length-words}
-
--- a count of one octet
-pub octet_of_one : (count : ℕ) → tabulate 1 (low_octet 1 (λ i. count)) ≡ count ∷ []
-unfolding tabulate
-octet_of_one count = refl
-
--- a count of two octets
-pub octets_of_two : (count : ℕ) → tabulate 2 (low_octet 2 (λ i. count)) ≡ 0 ∷ count ∷ []
-unfolding tabulate
-octets_of_two count = refl
-
--- one count more
-octets-more : (w n : ℕ) (f : ℕ → ℕ) → 0 < w → tabulate (w * (n + 1)) (low_octet w f) ≡ tabulate (w * n) (low_octet w f) ++ tabulate w (low_octet w (λ i. f n))
-octets-more w n f h =
-    octets-flat w (n + 1) f h
-    ∙ (ap (flat_map (slot_octets w)) (tabulate-more n f)
-    ∙ (flat_map-append (slot_octets w) (tabulate n f) (f n ∷ [])
-    ∙ (ap (λ xs. xs ++ flat_map (slot_octets w) (f n ∷ [])) (sym (octets-flat w n f h))
-    ∙ ap (λ xs. tabulate (w * n) (low_octet w f) ++ xs) (append-nil (slot_octets w (f n))))))
-
--- the last octet of count i
-last_octet : (w i : ℕ) (f : ℕ → ℕ) → 0 < w → low_octet w f (w * i + (w - 1)) ≡ f i
-last_octet w i f h =
-    let place : w * i + (w - 1) ≡ i * w + (w - 1) = (let swap : w * i ≡ i * w = grind arith in omega arith) in
-    let last : (w * i + (w - 1)) % w ≡ w - 1 = ap (λ n. n % w) place ∙ mod-mul-add i w (w - 1) (omega arith) in
-    let count : (w * i + (w - 1)) / w ≡ i = ap (λ n. n / w) place ∙ div-mul-add i w (w - 1) (omega arith) in
-    let same : (w - 1 == w - 1) ≡ true = grind (arith, nat_tests) in
-    rw (last, count, same) refl
-
--- count i is the last of its octets, where these are the octets of counts below 256
-get_or-octets : (w n i : ℕ) (f : ℕ → ℕ) (octets : List ℕ) → 0 < w → i < n → octets ≡ tabulate (w * n) (low_octet w f) → get_or octets (w * i + (w - 1)) 0 ≡ f i
-get_or-octets w n i f octets h b e =
-    let within : w * i + (w - 1) < w * n = grind arith in
-    ap (λ (l : List ℕ). get_or l (w * i + (w - 1)) 0) e ∙ get_or-tabulate (w * n) (low_octet w f) (w * i + (w - 1)) 0 within ∙ last_octet w i f h
-
--- ---- the counts of a simulation
--- as many counts as there are whole ones
-pub length-counts_of : (p : Parameters) (octets : List ℕ) → length (counts_of p octets) ≡ length octets / p.count_octets
-unfolding counts_of
-length-counts_of p octets = length-tabulate _ _
 
 -- a count for each slot
 pub length-channel_counts : (task : Task) (slots : List ℕ) → length (channel_counts task slots) ≡ length slots
@@ -100,10 +57,6 @@ counts_all p task octets xs w i same end was =
     was ∙ ap (λ n. tabulate (p.count_octets * n) (low_octet p.count_octets (λ k. get_or (channel_counts task (counts_of p octets)) k 0))) size
 
 -- ---- counts and their octets
--- the places of a list give the list
-places : (xs : List ℕ) → tabulate (length xs) (λ k. get_or xs k 0) ≡ xs
-places xs = sym (tabulate_from_places (length xs) (λ k. get_or xs k 0) xs 0 refl (λ k b. refl))
-
 -- so many octets
 pub length-count_octets_of : (p : Parameters) (counts : List ℕ) → length (count_octets_of p counts) ≡ p.count_octets * length counts
 unfolding count_octets_of
@@ -112,7 +65,7 @@ length-count_octets_of p counts = length-tabulate _ _
 -- the octets of counts write these counts
 pub counts_of-octets : (p : Parameters) (counts : List ℕ) → IsValid p → counts_of p (count_octets_of p counts) ≡ counts
 unfolding count_octets_of
-counts_of-octets p counts v = counts_of-slots p (length counts) (λ k. get_or counts k 0) v.range.count_octets_low v.range.count_octets_high ∙ places counts
+counts_of-octets p counts v = counts_of-slots p (length counts) (λ k. get_or counts k 0) v.range.count_octets_low v.range.count_octets_high ∙ tabulate-places counts
 
 -- octets that carry slots are those of the slots that they write
 pub octets-own : (p : Parameters) (n : ℕ) (f : ℕ → ℕ) (octets : List ℕ) → IsValid p → octets ≡ tabulate (p.count_octets * n) (low_octet p.count_octets f)
@@ -128,23 +81,9 @@ octets-own p n f octets v e =
     let below : k / w < n = div_below k w n v.range.count_octets_low (let swap : n * w ≡ w * n = grind arith in omega arith) in
     ap (λ c. if k % w == w - 1 then c else 0) (get_or-tabulate n f (k / w) 0 below))))
 
--- the octets of a count add up to it
-sum-octets : (w count : ℕ) → 1 ≤ w → w ≤ 2 → sum (slot_octets w count) ≡ count
-sum-octets zero count low high = absurd (omega arith)
-sum-octets (suc zero) count low high = ap sum (octet_of_one count) ∙ omega arith
-sum-octets (suc (suc zero)) count low high = ap sum (octets_of_two count) ∙ omega arith
-sum-octets (suc (suc (suc w))) count low high = absurd (omega arith)
-
--- the octets of all counts
-sum-flat : (w : ℕ) (counts : List ℕ) → 1 ≤ w → w ≤ 2 → sum (flat_map (slot_octets w) counts) ≡ sum counts
-sum-flat w [] low high = refl
-sum-flat w (c ∷ cs) low high =
-    sum_by-append (λ n. n) (slot_octets w c) (flat_map (slot_octets w) cs) ∙ ap₂ (λ a b. a + b) (sum-octets w c low high) (sum-flat w cs low high)
-    ∙ sym (sum_by-cons (λ n. n) c cs)
-
 -- so octets of counts add up to the counts
 pub sum-count_octets_of : (p : Parameters) (counts : List ℕ) → IsValid p → sum (count_octets_of p counts) ≡ sum counts
 unfolding count_octets_of
 sum-count_octets_of p counts v =
-    ap sum (octets-flat p.count_octets (length counts) (λ k. get_or counts k 0) v.range.count_octets_low ∙ ap (flat_map (slot_octets p.count_octets)) (places counts))
-    ∙ sum-flat p.count_octets counts v.range.count_octets_low v.range.count_octets_high
+    ap sum (octets-flat p.count_octets (length counts) (λ k. get_or counts k 0) v.range.count_octets_low ∙ ap (flat_map (slot_octets p.count_octets)) (tabulate-places counts))
+    ∙ sum-slot_octets p.count_octets counts v.range.count_octets_low v.range.count_octets_high

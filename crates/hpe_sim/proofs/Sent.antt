@@ -12,8 +12,8 @@ use Rattle.hpe_send.specs.declared.sender.SendFault.{SendFault}
 use Rattle.hpe_send.specs.declared.sender.SendFault.TheVariants.{Write}
 use Rattle.hpe_send.specs.Sending.{HasWriteCause, IfCutOff}
 use Rattle.hpe_io.proofs.Marks.{mark_in-none}
-use Rattle.hpe_sim.proofs.Sizes.{slots_up}
 use Rattle.hpe_io.specs.Memory.{Store, mark_of, mark_in}
+use Rattle.hpe_base.proofs.SentSlots.{slots_up}
 
 -- what was sent up to a failure
 abbrev CutAt : Parameters → ℕ → Option (List ℕ) → Option (List ℕ) → Option (List ℕ) → Option (List ℕ) → Type 0

@@ -157,12 +157,12 @@ split_place : (a j : ℕ) → a ≤ j → j ≡ a + (j - a)
 split_place a j h = omega arith
 
 -- one step back, the soft values reach one step further
-pub SoftFrom-more : (columns : List (List Bool)) (l : List ℤ) (n t at now : ℕ) (info code more soft : List ℤ) → length code ≡ length l → kept_before columns (t + 1) ≤ length l → at ≡ kept_before columns (t + 1) → now ≡ kept_before columns t
-    → SoftFrom columns l n (t + 1) at info code
+pub SoftFrom-more : (columns : List (List Bool)) (l : List ℤ) (n t now : ℕ) (info code more soft : List ℤ) → length code ≡ length l → kept_before columns (t + 1) ≤ length l → now ≡ kept_before columns t
+    → SoftFrom columns l n (t + 1) info code
     → (t < n → number_at more t ≡ number_at soft 0) → ((j : ℕ) → j ≢ t → number_at more j ≡ number_at info j)
     → (t < n → IsInformationSoft columns l n t (number_at soft 0)) → ((i : ℕ) → i < width columns t → IsCodeSoft columns l n (kept_before columns t + i) (number_at soft (suc (flag_index (column columns t) i))))
-    → SoftFrom columns l n t now more (put_all (column columns t) (number_at soft 1 ∷ number_at soft 2 ∷ number_at soft 3 ∷ []) code now)
-SoftFrom-more columns l n t at now info code more soft lc cap ea en s here others free bits =
+    → SoftFrom columns l n t more (put_all (column columns t) (number_at soft 1 ∷ number_at soft 2 ∷ number_at soft 3 ∷ []) code now)
+SoftFrom-more columns l n t now info code more soft lc cap en s here others free bits =
     let ss : List ℤ = number_at soft 1 ∷ number_at soft 2 ∷ number_at soft 3 ∷ [] in
     let fs : List Bool = column columns t in
     let step = before_next columns t in
@@ -177,7 +177,7 @@ SoftFrom-more columns l n t at now info code more soft lc cap ea en s here other
           ⊎_elim
           (λ (h : j < kept_before columns (t + 1)).
           let i : ℕ = j - now in
-          let is : j ≡ now + i = split_place now j le in
+          let is : j ≡ now + i = split_place now j (omega arith) in
           let li : i < width columns t = omega arith in
           let low = selected-index fs (0 ∷ 0 ∷ 0 ∷ []) i li in
           let room : now + length (selected fs (0 ∷ 0 ∷ 0 ∷ [])) ≤ length code = omega arith in
@@ -186,6 +186,6 @@ SoftFrom-more columns l n t at now info code more soft lc cap ea en s here other
           subst (λ (k : ℕ). IsCodeSoft columns l n k (number_at (put_all fs ss code now) k)) (sym is) (subst (IsCodeSoft columns l n (now + i)) (sym value) at_place))
           (λ (h : kept_before columns (t + 1) ≤ j).
           let past : now + length (selected fs (0 ∷ 0 ∷ 0 ∷ [])) ≤ j = omega arith in
-          subst (IsCodeSoft columns l n j) (sym (put-above fs ss (0 ∷ 0 ∷ 0 ∷ []) code now j refl past)) (s.code_bits j (omega arith) lt))
+          subst (IsCodeSoft columns l n j) (sym (put-above fs ss (0 ∷ 0 ∷ 0 ∷ []) code now j refl past)) (s.code_bits j h lt))
           (cases_lt j (kept_before columns (t + 1)));
     }

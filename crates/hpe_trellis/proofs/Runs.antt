@@ -64,13 +64,13 @@ code-bit-is columns n t i us h lt li =
     ∙ kept-bit columns t n 0 0 i us (omega arith) h lt (subst (λ (k : ℕ). i < width columns k) (sym (zero-add t)) li)
     ∙ ap (λ (k : ℕ). code_bit columns k i (state_at outer_next 0 us t) (get_or us t 0)) (zero-add t)
 
-free-path : (n : ℕ) (w : List ℕ) → IsPath 2 n w → IsPath 2 (n + 2) (w ++ 0 ∷ 0 ∷ [])
+pub free-path : (n : ℕ) (w : List ℕ) → IsPath 2 n w → IsPath 2 (n + 2) (w ++ 0 ∷ 0 ∷ [])
 free-path n w h = path-append 2 n 2 w (0 ∷ 0 ∷ []) h (omega arith, (omega arith, tt))
 
 to_zero : (p : ℕ) → p < 4 → 2 * 0 + (2 * 0 + p / 2) / 2 ≡ 0
 to_zero p h = omega arith
 
-free-ends : (n : ℕ) (w : List ℕ) → IsPath 2 n w → ends outer_next 0 (w ++ 0 ∷ 0 ∷ []) ≡ 0
+pub free-ends : (n : ℕ) (w : List ℕ) → IsPath 2 n w → ends outer_next 0 (w ++ 0 ∷ 0 ∷ []) ≡ 0
 free-ends n w h = ends-append outer_next 0 w (0 ∷ 0 ∷ []) ∙ to_zero (ends outer_next 0 w) (ends-below 2 4 n outer_next outer-stays 0 w (omega arith) h)
 
 both_none : (p y z : ℕ) → p < 4 → y < 2 → z < 2 → 2 * z + (2 * y + p / 2) / 2 ≡ 0 → (y ≡ 0) × (z ≡ 0)
@@ -82,7 +82,7 @@ last_two p y (z ∷ []) low h k e = let w = both_none p y z low h k.0 e in ap₂
 last_two p y (z ∷ x ∷ rest) low h k e = absurd k.1
 
 -- a run that ends in state 0 ends in two zeros
-zero_ended : (n : ℕ) (us : List ℕ) → IsPath 2 (n + 2) us → ends outer_next 0 us ≡ 0 → (w : List ℕ) × (IsPath 2 n w × (us ≡ w ++ 0 ∷ 0 ∷ []))
+pub zero_ended : (n : ℕ) (us : List ℕ) → IsPath 2 (n + 2) us → ends outer_next 0 us ≡ 0 → (w : List ℕ) × (IsPath 2 n w × (us ≡ w ++ 0 ∷ 0 ∷ []))
 zero_ended n us h e =
     let c = cut 2 n 1 us h in
     let p : ℕ = ends outer_next 0 c.front in

@@ -51,6 +51,14 @@ pub record IsOuterWord (columns : List (List Bool)) (l : List ℤ) : Type 0 wher
   pub short : length l ≤ codeword_bits
   pub within : AllWithin clamp l
 
+-- a word, and how long the lists for its n information bits are: of the soft values of its code bits, and of rows
+pub record IsOuterTask (columns : List (List Bool)) (l : List ℤ) (n code rows : ℕ) : Type 0 where
+  pub word : IsOuterWord columns l
+  pub free : (2 ≤ n) × (n ≤ 10078)
+  pub long : length l ≡ kept_before columns (n + 2)
+  pub code_long : code ≡ length l
+  pub rows_long : rows ≡ outer_rows (n + 2)
+
 -- the rows before `count` steps from `start` on
 abbrev pub AreForeRows : ℕ → ℕ → List (List Bool) → List ℤ → List (List ℤ) → Type 0
 AreForeRows start count columns l rows =
@@ -71,10 +79,10 @@ pub record IsCodeSoft (columns : List (List Bool)) (l : List ℤ) (n i : ℕ) (s
   pub tops : (b : ℕ) → b < 2 → IsSome (code_top columns l n i b)
   pub value : soft ≡ code_soft_value columns l n i
 
--- the soft values of the n information bits from place t on, and of the code bits from place `at` on
-pub record SoftFrom (columns : List (List Bool)) (l : List ℤ) (n t at : ℕ) (info code : List ℤ) : Type 0 where
+-- the soft values of the n information bits and of the code bits that are kept, from step t on
+pub record SoftFrom (columns : List (List Bool)) (l : List ℤ) (n t : ℕ) (info code : List ℤ) : Type 0 where
   pub information : (j : ℕ) → t ≤ j → j < n → IsInformationSoft columns l n j (number_at info j)
-  pub code_bits : (i : ℕ) → at ≤ i → i < length l → IsCodeSoft columns l n i (number_at code i)
+  pub code_bits : (i : ℕ) → kept_before columns t ≤ i → i < length l → IsCodeSoft columns l n i (number_at code i)
 
 -- the list with the values whose flag is set written from place `at` on
 abbrev pub put_all : List Bool → List ℤ → List ℤ → ℕ → List ℤ

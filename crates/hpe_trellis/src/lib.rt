@@ -13,4 +13,5 @@ mod tests;
 mod word;
 
 pub use laws::outer_scores_are_bounded;
-pub use outer::{outer_rows, outer_soft};
+pub use outer::{OUTSIDE, outer_rows, outer_soft};
+pub use puncturing::step_numbers;

@@ -7,14 +7,14 @@
 //! The forward recursion keeps only the row before each window of 64 steps. The backward one takes the windows from the
 //! last to the first, makes the rows of a window again, and meets them: a third visit of each step, for a row in 64 of
 //! the memory.
-ghost use Rattle.std.specs.Prelude.{◌≡◌, [], ◌∷◌, true, ◌≢◌, ◌<◌, ◌≤◌, ◌+◌, ◌-◌, ◌*◌, ◌^◌, ℕ, List, length, IsSome};
+ghost use Rattle.std.specs.Prelude.{◌≡◌, ◌≢◌, ◌<◌, ◌≤◌, ◌+◌, ◌-◌, ◌*◌, ◌^◌, ℕ, List, length, IsSome};
 ghost use Rattle.hpe_base.specs.Parameters.{clamp, codeword_bits};
 ghost use Rattle.hpe_base.specs.Sizes.{number_at, AllWithin};
 ghost use Rattle.hpe_base.specs.ConvolutionalCode.{code_bits, AreColumns};
 ghost use Rattle.hpe_base.specs.GreatestScores.{information_top, code_top};
 ghost use Rattle.hpe_base.specs.SoftValues.{information_soft_value, code_soft_value};
 ghost use Rattle.hpe_lane.specs.Windows.{window, windows};
-ghost use Rattle.hpe_trellis.specs.OuterTrellis.{outer_rows, kept_before, OuterFore, OuterBack, SoftFrom, AreForeRows, AreKeptRows, IsOuterWord};
+ghost use Rattle.hpe_trellis.specs.OuterTrellis.{outer_rows, kept_before, OuterFore, OuterBack, SoftFrom, AreForeRows, AreKeptRows, IsOuterWord, IsOuterTask};
 
 use crate::puncturing::{place_before, put_soft, step_numbers};
 use crate::word::{Span, Word};
@@ -28,10 +28,16 @@ use std::sync::ledger::Ledger;
 const NEVER: i32 = -500_000_000;
 
 /// The row before the first step, and the one after the last.
-const OUTSIDE: [i32; 4] = [0, NEVER, NEVER, NEVER];
+pub const OUTSIDE: [i32; 4] = [0, NEVER, NEVER, NEVER];
 
-/// The column that keeps all outputs.
-const ALL: [[bool; 3]; 1] = [[true; 3]];
+/// The columns that the rates have as a rule, of which each has a copy of the recursions: 1/3 keeps all outputs.
+const THIRD: [[bool; 3]; 1] = [[true; 3]];
+
+/// Rate 1/2 keeps the first two outputs of each step.
+const HALF: [[bool; 3]; 1] = [[true, true, false]];
+
+/// Rate 2/3 keeps the first two outputs of a step and the second one of the next.
+const TWO_THIRDS: [[bool; 3]; 2] = [[true, true, false], [false, true, false]];
 
 /// How many rows [`outer_soft`] takes for so many steps, of which a codeword has at most 10,080: one before each window
 /// of 64 steps, and those of one window.
@@ -132,13 +138,13 @@ fn window_values<L: Ledger, const SHAPE: u32>(
         word.columns.now word.l.now back }
     requires l { length word.l.now ≡ kept_before word.columns.now (length info.old + 2) }
     requires code { length code.old ≡ length word.l.now }
-    requires soft { SoftFrom word.columns.now word.l.now (length info.old) (span.start + span.count)
-        (kept_before word.columns.now (span.start + span.count)) info.old code.old }
+    requires soft { SoftFrom word.columns.now word.l.now (length info.old) (span.start + span.count) info.old
+        code.old }
     requires room { steps.old + span.count ≤ 2 ^ 60 }
     ensures row { OuterBack span.entry.start (length info.old + 2 - span.entry.start)
         word.entry.columns.now word.entry.l.now result }
-    ensures soft { SoftFrom word.entry.columns.now word.entry.l.now (length info.old) span.entry.start
-        (kept_before word.entry.columns.now span.entry.start) info.new code.new }
+    ensures soft { SoftFrom word.entry.columns.now word.entry.l.now (length info.old) span.entry.start info.new
+        code.new }
     ensures cost { steps.new ≡ steps.old + span.entry.count }
 {
     let end = span.start + span.count;
@@ -177,7 +183,7 @@ fn backward_values<L: Ledger, const SHAPE: u32>(
     requires l { length word.l.now ≡ kept_before word.columns.now (length info.old + 2) }
     requires code { length code.old ≡ length word.l.now }
     requires room { steps.old + 2 * (length info.old + 2) ≤ 2 ^ 60 }
-    ensures soft { SoftFrom word.entry.columns.now word.entry.l.now (length info.old) 0 0 info.new code.new }
+    ensures soft { SoftFrom word.entry.columns.now word.entry.l.now (length info.old) 0 info.new code.new }
     ensures cost { steps.new ≡ steps.old + 2 * (length info.old + 2) }
 {
     let n = info.len() + 2;
@@ -227,51 +233,69 @@ pub fn outer_soft<L: Ledger>(
         → IsSome (code_top columns.now l.now (length info.old) i b) }
     ensures cost { steps.new ≡ steps.old + 3 * (length info.old + 2) }
 {
-    if keeps_all(columns) {
-        outer_of::<L, 1>(&ALL, l, rows, info, code, steps);
-    } else {
-        outer_of::<L, 0>(columns, l, rows, info, code, steps);
-    }
+    soft_values(Word { columns, l }, rows, info, code, steps);
 }
 
-/// Whether it is the one column that keeps all outputs.
-fn keeps_all(columns: &[[bool; 3]]) -> bool
-    ensures { result ≡ true → columns.now ≡ (true ∷ true ∷ true ∷ []) ∷ [] }
-{
-    columns.len() == 1 && columns[0][0] && columns[0][1] && columns[0][2]
-}
-
-/// The same, of which each shape has a copy: the compiler then knows the columns.
-fn outer_of<L: Ledger, const SHAPE: u32>(
-    columns: &[[bool; 3]],
-    l: &[i32],
+/// The same, by the copy that the columns have.
+fn soft_values<L: Ledger>(
+    word: Word,
     rows: &mut [[i32; 4]],
     info: &mut [i32],
     code: &mut [i32],
     steps: &mut Steps<L>,
 )
-    requires columns { AreColumns columns.now }
-    requires free { (2 ≤ length info.old) × (length info.old ≤ 10078) }
-    requires l { (u : List ℕ) → length u ≡ length info.old + 2
-        → length l.now ≡ length (code_bits columns.now u) }
-    requires short { length l.now ≤ codeword_bits }
-    requires code { length code.old ≡ length l.now }
-    requires rows { length rows.old ≡ outer_rows (length info.old + 2) }
-    requires within { AllWithin clamp l.now }
+    requires task { IsOuterTask word.columns.now word.l.now (length info.old) (length code.old) (length rows.old) }
     requires room { steps.old + 3 * (length info.old + 2) ≤ 2 ^ 60 }
-    ensures info { (j : ℕ) → j < length info.old
-        → number_at info.new j ≡ information_soft_value columns.now l.now (length info.old) j }
-    ensures code { (i : ℕ) → i < length l.now
-        → number_at code.new i ≡ code_soft_value columns.now l.now (length info.old) i }
-    ensures information_tops { (j b : ℕ) → j < length info.old → b < 2
-        → IsSome (information_top columns.now l.now (length info.old) j b) }
-    ensures code_tops { (i b : ℕ) → i < length l.now → b < 2
-        → IsSome (code_top columns.now l.now (length info.old) i b) }
+    ensures soft { SoftFrom word.entry.columns.now word.entry.l.now (length info.old) 0 info.new code.new }
+    ensures cost { steps.new ≡ steps.old + 3 * (length info.old + 2) }
+{
+    let l = word.l;
+    match word.columns {
+        [[true, true, true]] => both_ways::<L, 1>(
+            Word { columns: &THIRD, l },
+            rows,
+            info,
+            code,
+            steps,
+        ),
+        [[true, true, false]] => both_ways::<L, 2>(
+            Word { columns: &HALF, l },
+            rows,
+            info,
+            code,
+            steps,
+        ),
+        [[true, true, false], [false, true, false]] => {
+            both_ways::<L, 3>(
+                Word {
+                    columns: &TWO_THIRDS,
+                    l,
+                },
+                rows,
+                info,
+                code,
+                steps,
+            )
+        }
+        _ => both_ways::<L, 0>(word, rows, info, code, steps),
+    }
+}
+
+/// Both recursions, of which each shape of columns has a copy: the compiler then knows the columns.
+fn both_ways<L: Ledger, const SHAPE: u32>(
+    word: Word,
+    rows: &mut [[i32; 4]],
+    info: &mut [i32],
+    code: &mut [i32],
+    steps: &mut Steps<L>,
+)
+    requires task { IsOuterTask word.columns.now word.l.now (length info.old) (length code.old) (length rows.old) }
+    requires room { steps.old + 3 * (length info.old + 2) ≤ 2 ^ 60 }
+    ensures soft { SoftFrom word.entry.columns.now word.entry.l.now (length info.old) 0 info.new code.new }
     ensures cost { steps.new ≡ steps.old + 3 * (length info.old + 2) }
 {
     let n = info.len() + 2;
     let (kept, window) = rows.split_at_mut(n.div_ceil(WINDOW));
-    let word = Word { columns, l };
     forward_rows::<L, SHAPE>(n, word, kept, window, steps);
     backward_values::<L, SHAPE>(word, kept, window, info, code, steps);
 }

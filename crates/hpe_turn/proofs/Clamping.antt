@@ -1,40 +1,52 @@
--- Clamped numbers, and the forms in which machine numbers hold them.
-use Rattle.std.proofs.Common.{◌≡◌, ℕ, ℤ, pos, negsuc, ◌-ℤ◌, ◌∙◌, ap, ap₂, refl, arith, w32, to_z, of_z}
-use Rattle.std.specs.Prelude.{min}
-use Rattle.std.specs.Int.{saturate_signed}
+-- The clamped difference of two machine numbers, of which one is brought near the other before.
+use Rattle.std.proofs.Common.{◌≡◌, ◌<◌, ℤ, pos, ◌+ℤ◌, ◌-ℤ◌, ◌∙◌, ap, ap₂, arith, w32, to_z, of_z, FitsSigned}
+use Rattle.std.specs.Int.{int_min, int_max}
 use Rattle.std.proofs.lemmas.Int.{ints, clamps}
-use mir.Syntax.{w16}
+use lib.Signed.{mag}
 use Rattle.hpe_base.specs.Sizes.{Within}
 use Rattle.hpe_base.specs.SoftValues.{clamped}
 use Rattle.hpe_base.proofs.Scaling.{clamped_within}
 
--- a small number stands in an i16 and in an i32 as it is
-pub held-16 : (x : ℤ) → Within 16383 x → to_z w16 (of_z w16 x) ≡ x
-held-16 x w = omega (arith, ints, w)
+-- what an i32 holds
+abbrev pub held : ℤ → ℤ
+held x = to_z w32 (of_z w32 x)
 
-pub held-32 : (x : ℤ) → Within 16383 x → to_z w32 (of_z w32 x) ≡ x
-held-32 x w = omega (arith, ints, w)
+-- a number that fits stands in an i32 as it is
+pub held_fits : (x : ℤ) → mag x < 2147483648 → held x ≡ x
+held_fits x h = omega (arith, ints, h)
 
--- a clamped number stands in an i16 as it is
-pub clamped_kept : (v r : ℤ) → r ≡ clamped v → to_z w16 (of_z w16 (to_z w32 (of_z w32 r))) ≡ clamped v
-clamped_kept v r e =
-    let w = clamped_within v in
-    ap (λ (z : ℤ). to_z w16 (of_z w16 (to_z w32 (of_z w32 z)))) e ∙ omega (arith, ints, w)
+-- and so do small ones
+pub held_small : (x : ℤ) → Within 32766 x → held x ≡ x
+held_small x w = omega (arith, ints, w)
 
-saturated_high : (n k : ℕ) → k ≡ min n 2147483647 → clamped (to_z w32 (of_z w32 (pos k))) ≡ clamped (pos n)
-saturated_high n k e = omega (arith, ints, clamps)
+pub fits_small : (x : ℤ) → Within 16383 x → FitsSigned w32 x
+fits_small x w = omega (arith, ints, w)
 
-saturated_low : (n k : ℕ) → k ≡ min n 2147483647 → clamped (to_z w32 (of_z w32 (negsuc k))) ≡ clamped (negsuc n)
-saturated_low n k e = omega (arith, ints, clamps)
+wider : (x : ℤ) → Within 16383 x → Within 32766 x
+wider x w = omega (arith, ints, w)
 
-saturated : (z : ℤ) → clamped (to_z w32 (of_z w32 (saturate_signed w32 z))) ≡ clamped z
-saturated (pos n) = saturated_high n (min n 2147483647) refl
-saturated (negsuc n) = saturated_low n (min n 2147483647) refl
+sum_within : (x : ℤ) → Within 16383 x → Within 32766 (x +ℤ pos 16383)
+sum_within x w = omega (arith, ints, w)
 
--- a difference that saturates clamps to the same
-pub saturated_clamped : (a b s : ℤ) → to_z w32 (of_z w32 a) ≡ a → to_z w32 (of_z w32 b) ≡ b
-    → s ≡ saturate_signed w32 (to_z w32 (of_z w32 a) -ℤ to_z w32 (of_z w32 b)) → clamped (to_z w32 (of_z w32 s)) ≡ clamped (a -ℤ b)
-saturated_clamped a b s ea eb e =
-    ap (λ (z : ℤ). clamped (to_z w32 (of_z w32 z))) e
-    ∙ saturated (to_z w32 (of_z w32 a) -ℤ to_z w32 (of_z w32 b))
-    ∙ ap₂ (λ (x y : ℤ). clamped (x -ℤ y)) ea eb
+difference_within : (x : ℤ) → Within 16383 x → Within 32766 (x -ℤ pos 16383)
+difference_within x w = omega (arith, ints, w)
+
+-- the difference of a number that was brought near another is clamped
+near_clamped : (s g : ℤ) → int_max (int_min s (g +ℤ pos 16383)) (g -ℤ pos 16383) -ℤ g ≡ clamped (s -ℤ g)
+near_clamped s g = omega (arith, ints, clamps)
+
+-- the same of what i32s hold
+pub held_gain : (s g most low near : ℤ) → held s ≡ s → Within 16383 g → most ≡ pos 16383 → mag low < 2147483648 → mag near < 2147483648
+    → low ≡ int_min (held s) (held (held g +ℤ held most)) → near ≡ int_max (held low) (held (held g -ℤ held most)) → held near -ℤ held g ≡ clamped (s -ℤ g)
+held_gain s g most low near es wg em ml mn el en =
+    let eg : held g ≡ g = held_small g (wider g wg) in
+    let e : held most ≡ pos 16383 = ap held em in
+    let above : held (held g +ℤ held most) ≡ g +ℤ pos 16383 = ap₂ (λ (x y : ℤ). held (x +ℤ y)) eg e ∙ held_small (g +ℤ pos 16383) (sum_within g wg) in
+    let below : held (held g -ℤ held most) ≡ g -ℤ pos 16383 = ap₂ (λ (x y : ℤ). held (x -ℤ y)) eg e ∙ held_small (g -ℤ pos 16383) (difference_within g wg) in
+    let low_is : held low ≡ int_min s (g +ℤ pos 16383) = held_fits low ml ∙ el ∙ ap₂ int_min es above in
+    let near_is : held near ≡ int_max (int_min s (g +ℤ pos 16383)) (g -ℤ pos 16383) = held_fits near mn ∙ en ∙ ap₂ int_max low_is below in
+    ap₂ (λ (x y : ℤ). x -ℤ y) near_is eg ∙ near_clamped s g
+
+-- a clamped number stands in an i32 as it is
+pub held_clamped : (v : ℤ) → held (clamped v) ≡ clamped v
+held_clamped v = held_small (clamped v) (wider (clamped v) (clamped_within v))

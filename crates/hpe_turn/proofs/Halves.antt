@@ -1,5 +1,5 @@
 -- What the halves of a round give, from what their calls left.
-use Rattle.std.proofs.Common.{◌≡◌, ◌<◌, ◌≤◌, ℕ, ℤ, pos, ◌-ℤ◌, List, ◌++◌, length, get_or, take, sym, ◌∙◌, ap, arith}
+use Rattle.std.proofs.Common.{◌≡◌, ◌<◌, ◌≤◌, ℕ, ℤ, pos, ◌-ℤ◌, List, ◌++◌, length, get_or, take, ◌∙◌, ap, arith}
 use Rattle.std.proofs.Math.Seq.{take-length}
 use Rattle.std.proofs.lemmas.List.{take-append-le}
 use Rattle.hpe_base.specs.Sizes.{number_at, AllWithin}
@@ -9,7 +9,7 @@ use Rattle.hpe_base.specs.SoftValues.{clamped, scaled, inner_soft_value, code_so
 use Rattle.hpe_base.specs.Parameters.{information_bits}
 use Rattle.hpe_base.specs.Rounds.{outer_numbers, next_numbers, hard_bits, hard_bit}
 use Rattle.hpe_base.proofs.Tabulated.{tabulate_from_places}
-use Rattle.hpe_base.proofs.Permutation.{pi-pi_inverse, pi-lt, pi_inverse-lt}
+use Rattle.hpe_base.proofs.Permutation.{pi-lt, pi_inverse-lt}
 use Rattle.hpe_base.proofs.Scaling.{scaled_places}
 
 -- the whole of a list that was lent
@@ -20,14 +20,14 @@ whole_taken n xs ys e = rw (e, take-append-le (length xs) xs ys (omega arith)) (
 pub outer_numbers-is : (p : Parameters) (counts : List ℕ) (l soft e moved : List ℤ) → length e ≡ codeword_bits → length moved ≡ codeword_bits
     → ((j : ℕ) → j < codeword_bits → number_at soft j ≡ inner_soft_value p.order counts l j)
     → ((j : ℕ) → j < length e → number_at e j ≡ scaled p.scale (clamped (number_at soft j -ℤ number_at l j)))
-    → IsInterleaved moved e → moved ≡ outer_numbers p counts l
+    → ((i : ℕ) → i < codeword_bits → number_at moved i ≡ number_at e (pi_inverse i)) → moved ≡ outer_numbers p counts l
 unfolding outer_numbers inner_extrinsic
 outer_numbers-is p counts l soft e moved le lm s x m =
     tabulate_from_places codeword_bits (λ i. scaled p.scale (clamped (inner_soft_value p.order counts l (pi_inverse i) -ℤ number_at l (pi_inverse i)))) moved (pos 0) lm
     (λ i h.
     let j : ℕ = pi_inverse i in
     let low : j < codeword_bits = pi_inverse-lt i in
-    ap (number_at moved) (sym (pi-pi_inverse i h)) ∙ sym (m j (pos 0) low) ∙ x j (omega arith)
+    m i h ∙ x j (omega arith)
     ∙ ap (λ (z : ℤ). scaled p.scale (clamped (z -ℤ number_at l j))) (s j low))
 
 -- the outer extrinsic values, interleaved

@@ -5,13 +5,10 @@ use Rattle.hpe_base.specs.Parameters.{information_bits}
 use Rattle.hpe_inner.specs.Lengths as inner
 use Rattle.hpe_trellis.specs.OuterTrellis as outer
 
-pub record HasRoom (p : Parameters) (inner_numbers : List ℤ) (inner_rows : List (List ℤ)) (outer_numbers : List ℤ) (outer_rows : List (List ℤ)) (soft extrinsic moved information : List ℤ) (hard : List ℕ) : Type 0 where
-  pub long_inner_numbers : length inner_numbers ≡ codeword_bits
+pub record HasRoom (p : Parameters) (numbers : List ℤ) (inner_rows outer_rows : List (List ℤ)) (soft information : List ℤ) (hard : List ℕ) : Type 0 where
+  pub long_numbers : length numbers ≡ codeword_bits
   pub long_inner_rows : length inner_rows ≡ inner.inner_rows (codeword_symbols p.order)
-  pub long_outer_numbers : length outer_numbers ≡ codeword_bits
   pub long_outer_rows : length outer_rows ≡ outer.outer_rows (code_steps p.rate)
   pub long_soft : length soft ≡ codeword_bits
-  pub long_extrinsic : length extrinsic ≡ codeword_bits
-  pub long_moved : length moved ≡ codeword_bits
   pub long_information : length information ≡ information_bits p.rate
   pub long_hard : length hard ≡ information_bits p.rate

@@ -12,8 +12,7 @@ use hpe_base::CLAMP;
 pub fn cut(v: i32) -> i32
     ensures { result ≡ clamped v }
 {
-    let most = i32::from(CLAMP);
-    v.min(most).max(-most)
+    gain(v, 0)
 }
 
 /// So many eighths of a number, rounded away from zero: the least whole number at least `|v| scale / 8`, with the sign of
@@ -28,56 +27,57 @@ pub fn scaled(v: i32, scale: u32) -> i32
     if v < 0 { -size } else { size }
 }
 
-/// What each soft value adds to the number that the code was given, clamped.
+/// What a soft value adds to the number that the code was given, clamped.
 ///
-/// The difference saturates, which the clamp hides.
-fn differences(soft: &[i32], given: &[i32], out: &mut [i16])
-    requires soft { length soft.now ≡ length out.old }
-    requires given { length given.now ≡ length out.old }
-    ensures value { (j : ℕ) → j < length out.old
-        → number_at out.new j ≡ clamped (number_at soft.now j -ℤ number_at given.now j) }
+/// The soft value is brought near that number before the difference is made, which then fits in 32 bits.
+fn gain(soft: i32, given: i32) -> i32
+    requires { Within clamp given }
+    ensures { result ≡ clamped (soft -ℤ given) }
 {
-    for (j, value) in out.iter_mut().enumerate() {
-        *value = cut(soft[j].saturating_sub(given[j])) as i16;
+    let most = i32::from(CLAMP);
+    let near = soft.min(given + most).max(given - most);
+    near - given
+}
+
+/// Puts in the place of each soft value what it adds to the number that the code was given, clamped.
+fn take_gains(soft: &mut [i32], given: &[i32])
+    requires given { length given.now ≡ length soft.old }
+    requires small { AllWithin clamp given.now }
+    ensures value { (j : ℕ) → j < length soft.old
+        → number_at soft.new j ≡ clamped (number_at soft.old j -ℤ number_at given.now j) }
+{
+    for (j, value) in soft.iter_mut().enumerate() {
+        *value = gain(*value, given[j]);
     }
 }
 
 /// Scales each value.
-fn shrink(scale: u32, values: &mut [i16])
+fn shrink(scale: u32, values: &mut [i32])
     requires low { 1 ≤ scale }
     requires high { scale ≤ 8 }
     requires small { AllWithin clamp values.old }
     ensures value { (j : ℕ) → j < length values.old → number_at values.new j ≡ scaled scale (number_at values.old j) }
 {
     for value in values.iter_mut() {
-        *value = scaled(i32::from(*value), scale) as i16;
+        *value = scaled(*value, scale);
     }
 }
 
-/// The extrinsic values: what each soft value adds to the number that the code was given, clamped and then scaled.
+/// Puts the extrinsic values in the place of the soft values: what each adds to the number that the code was given,
+/// clamped and then scaled.
 ///
 /// At scale 8 they are as they are clamped, so the list isn't gone through again.
-pub(crate) fn extrinsic(scale: u32, soft: &[i32], given: &[i32], out: &mut [i16])
+pub(crate) fn extrinsic(scale: u32, soft: &mut [i32], given: &[i32])
     requires low { 1 ≤ scale }
     requires high { scale ≤ 8 }
-    requires soft { length soft.now ≡ length out.old }
-    requires given { length given.now ≡ length out.old }
-    ensures value { (j : ℕ) → j < length out.old
-        → number_at out.new j ≡ scaled scale (clamped (number_at soft.now j -ℤ number_at given.now j)) }
+    requires given { length given.now ≡ length soft.old }
+    requires small { AllWithin clamp given.now }
+    ensures value { (j : ℕ) → j < length soft.old
+        → number_at soft.new j ≡ scaled scale (clamped (number_at soft.old j -ℤ number_at given.now j)) }
 {
-    differences(soft, given, out);
+    take_gains(soft, given);
     if scale < 8 {
-        shrink(scale, out);
-    }
-}
-
-/// The same numbers, in the type that the codes take.
-pub(crate) fn widen(from: &[i16], into: &mut [i32])
-    requires { length from.now ≡ length into.old }
-    ensures value { into.new ≡ from.now }
-{
-    for (j, number) in into.iter_mut().enumerate() {
-        *number = i32::from(from[j]);
+        shrink(scale, soft);
     }
 }
 

@@ -4,6 +4,7 @@
 
 mod desk;
 mod extrinsic;
+mod inverse;
 mod rounds;
 #[cfg(test)]
 mod tests;

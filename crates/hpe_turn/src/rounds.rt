@@ -9,7 +9,8 @@ ghost use Rattle.hpe_turn.specs.Room.{HasRoom};
 ghost use Rattle.hpe_turn.specs.FirstRight.{IsFirstRight};
 ghost use Rattle.hpe_turn.specs.Stages.{round_stages, rounds_made};
 
-use crate::extrinsic::{decide, extrinsic, widen};
+use crate::extrinsic::{decide, extrinsic};
+use crate::inverse::InverseTable;
 use crate::verdict::Verdict;
 use hpe_base::{CODE_BITS, NoMemory, Profile, Steps};
 use hpe_block::open_block;
@@ -31,22 +32,19 @@ fn zeros<T: Copy + Default>(alloc: Global, n: usize) -> Result<Vec<T>, NoMemory>
 pub(crate) struct Rounds {
     pub(crate) profile: Profile,
     tables: CodeTables,
-    /// The a-priori numbers of the inner code, in the order of the code interleaver.
-    inner_numbers: Vec<i32>,
+    inverse: InverseTable,
+    /// The a-priori numbers of the code of the present half: those of the inner code are in the order of the code
+    /// interleaver.
+    numbers: Vec<i32>,
     inner_rows: Vec<[i32; 2]>,
-    /// The a-priori numbers of the outer code.
-    outer_numbers: Vec<i32>,
     outer_rows: Vec<[i32; 4]>,
-    /// The soft values that the code of the present half gives.
+    /// The soft values that this code gives, and then what it gives to the other one, in its own order.
     soft: Vec<i32>,
-    /// What it gives to the other code, before and after the code interleaver or its inverse.
-    extrinsic: Vec<i16>,
-    moved: Vec<i16>,
     /// The soft values of the information bits, and what they decide.
     information: Vec<i32>,
     hard: Vec<u8>,
     ghost valid: { IsValid profile },
-    ghost room: { HasRoom profile inner_numbers.items inner_rows.items outer_numbers.items outer_rows.items soft.items extrinsic.items moved.items information.items hard.items },
+    ghost room: { HasRoom profile numbers.items inner_rows.items outer_rows.items soft.items information.items hard.items },
 }
 
 impl Rounds {
@@ -55,16 +53,16 @@ impl Rounds {
         ensures { IfOk result (λ r. r.profile ≡ p.now) }
     {
         let information = p.rate().information();
+        let tables = CodeTables::new(alloc)?;
+        let inverse = InverseTable::new(alloc, &tables)?;
         Ok(Rounds {
             profile: p.copy(),
-            tables: CodeTables::new(alloc)?,
-            inner_numbers: zeros(alloc, CODE_BITS)?,
+            tables,
+            inverse,
+            numbers: zeros(alloc, CODE_BITS)?,
             inner_rows: zeros(alloc, inner_rows(p.order().symbols()))?,
-            outer_numbers: zeros(alloc, CODE_BITS)?,
             outer_rows: zeros(alloc, outer_rows(p.rate().steps()))?,
             soft: zeros(alloc, CODE_BITS)?,
-            extrinsic: zeros(alloc, CODE_BITS)?,
-            moved: zeros(alloc, CODE_BITS)?,
             information: zeros(alloc, information)?,
             hard: zeros(alloc, information)?,
         })
@@ -73,9 +71,9 @@ impl Rounds {
     /// Begins with a word: the first round has no a-priori numbers.
     fn begin(&mut self)
         ensures profile { self.new.profile ≡ self.old.profile }
-        ensures numbers { self.new.inner_numbers.items ≡ replicate codeword_bits (pos 0) }
+        ensures numbers { self.new.numbers.items ≡ replicate codeword_bits (pos 0) }
     {
-        self.inner_numbers.fill(0);
+        self.numbers.fill(0);
     }
 
     /// The first half of a round: what the inner code gives to the outer one.
@@ -83,45 +81,44 @@ impl Rounds {
         requires counts { length counts.now
             ≡ codeword_symbols self.old.profile.order * positions self.old.profile.order }
         requires most { All (λ c. c ≤ clamp) counts.now }
-        requires small { AllWithin clamp self.old.inner_numbers.items }
+        requires small { AllWithin clamp self.old.numbers.items }
         requires room { steps.old + 3 * codeword_symbols self.old.profile.order ≤ 2 ^ 60 }
         ensures profile { self.new.profile ≡ self.old.profile }
-        ensures numbers { self.new.outer_numbers.items
-            ≡ outer_numbers self.old.profile counts.now self.old.inner_numbers.items }
-        ensures small { AllWithin clamp self.new.outer_numbers.items }
+        ensures numbers { self.new.numbers.items
+            ≡ outer_numbers self.old.profile counts.now self.old.numbers.items }
+        ensures small { AllWithin clamp self.new.numbers.items }
         ensures cost { steps.new ≡ steps.old + 3 * codeword_symbols self.old.profile.order }
     {
         inner_soft(
             self.profile.order(),
             counts,
-            &self.inner_numbers,
+            &self.numbers,
             &mut self.inner_rows,
             &mut self.soft,
             steps,
         );
         let scale = self.profile.scale();
-        extrinsic(scale, &self.soft, &self.inner_numbers, &mut self.extrinsic);
-        self.tables.deinterleave(&self.extrinsic, &mut self.moved);
-        widen(&self.moved, &mut self.outer_numbers);
+        extrinsic(scale, &mut self.soft, &self.numbers);
+        self.inverse.deinterleave(&self.soft, &mut self.numbers);
     }
 
     /// The second half of a round: what the outer code decides.
     fn outer_half<L: Ledger>(&mut self, steps: &mut Steps<L>)
-        requires small { AllWithin clamp self.old.outer_numbers.items }
+        requires small { AllWithin clamp self.old.numbers.items }
         requires room { steps.old + 3 * code_steps self.old.profile.rate ≤ 2 ^ 60 }
         ensures profile { self.new.profile ≡ self.old.profile }
-        ensures numbers { self.new.outer_numbers.items ≡ self.old.outer_numbers.items }
+        ensures numbers { self.new.numbers.items ≡ self.old.numbers.items }
         ensures soft { (i : ℕ) → i < codeword_bits
             → number_at self.new.soft.items i
-            ≡ code_soft_value self.old.profile.columns self.old.outer_numbers.items
+            ≡ code_soft_value self.old.profile.columns self.old.numbers.items
             (information_bits self.old.profile.rate) i }
-        ensures hard { self.new.hard.items ≡ hard_bits self.old.profile self.old.outer_numbers.items }
+        ensures hard { self.new.hard.items ≡ hard_bits self.old.profile self.old.numbers.items }
         ensures bits { AreBits self.new.hard.items }
         ensures cost { steps.new ≡ steps.old + 3 * code_steps self.old.profile.rate }
     {
         outer_soft(
             self.profile.columns(),
-            &self.outer_numbers,
+            &self.numbers,
             &mut self.outer_rows,
             &mut self.information,
             &mut self.soft,
@@ -134,16 +131,16 @@ impl Rounds {
     fn hand_back(&mut self)
         requires soft { (i : ℕ) → i < codeword_bits
             → number_at self.old.soft.items i
-            ≡ code_soft_value self.old.profile.columns self.old.outer_numbers.items
+            ≡ code_soft_value self.old.profile.columns self.old.numbers.items
             (information_bits self.old.profile.rate) i }
+        requires small { AllWithin clamp self.old.numbers.items }
         ensures profile { self.new.profile ≡ self.old.profile }
-        ensures numbers { self.new.inner_numbers.items ≡ next_numbers self.old.profile self.old.outer_numbers.items }
-        ensures small { AllWithin clamp self.new.inner_numbers.items }
+        ensures numbers { self.new.numbers.items ≡ next_numbers self.old.profile self.old.numbers.items }
+        ensures small { AllWithin clamp self.new.numbers.items }
     {
         let scale = self.profile.scale();
-        extrinsic(scale, &self.soft, &self.outer_numbers, &mut self.extrinsic);
-        self.tables.interleave(&self.extrinsic, &mut self.moved);
-        widen(&self.moved, &mut self.inner_numbers);
+        extrinsic(scale, &mut self.soft, &self.numbers);
+        self.tables.interleave(&self.soft, &mut self.numbers);
     }
 
     /// Makes rounds on a word up to the first that is right, and writes its block.

@@ -1,5 +1,5 @@
 -- One push of the unweaver.
-use Rattle.std.proofs.Common.{zero, ◌≡◌, ◌≢◌, ◌<◌, ◌≤◌, ◌+◌, ◌-◌, ◌*◌, ◌/◌, ◌%◌, ℕ, List, [], ◌∷◌, ◌++◌, length, get_or, ap, sym, ◌∙◌, arith, inl, inr, length-append, drop, take, set, All, ◌^◌, eqb, if◌then◌else◌, true, false, min}
+use Rattle.std.proofs.Common.{◌≡◌, ◌≢◌, ◌<◌, ◌≤◌, ◌+◌, ◌-◌, ◌*◌, ◌/◌, ◌%◌, ℕ, List, [], ◌∷◌, ◌++◌, length, get_or, ap, sym, ◌∙◌, arith, inl, inr, length-append, drop, take, set, All, ◌^◌, eqb, if◌then◌else◌, true, false, min}
 use Rattle.std.proofs.lemmas.Bool.{cases_eq, cases_lt, eq-eqb, ne_eqb}
 use Rattle.std.proofs.lemmas.Nat.{mul-le, mod_below, div-add-mod', mod-mul-add}
 use Rattle.std.proofs.lemmas.List.{append-nil, get_or_push, get_or-set_same, get_or-set_other, length-set, length-drop, length_push, get_or_append_left, drop-append-le, drop-drop, drop_all}

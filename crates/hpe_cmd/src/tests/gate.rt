@@ -1,11 +1,15 @@
 //! Words that are decoded side by side.
 
-use super::{ENCODE, sound, written, written_past, zeros};
+use super::{sound, thirty_frames, written_past, zeros};
 use crate::ending::Status;
 use hpe_recv::Gate;
 use std::hint::spin_loop;
 use std::sync::atomic::{AtomicBool, Ordering};
 use std::test::Fail;
+
+/// The report on five words that are kept.
+const FIVE_KEPT: &str =
+    "word 0 kept 1\nword 1 kept 1\nword 2 kept 1\nword 3 kept 1\nword 4 kept 1\nwords 5 kept 5 lost 0 frames 30 lead 0 tail 0\n";
 
 /// A gate at which each of the first two jobs, when it first comes, sets its own flag and looks for the other's.
 #[derive(Drop)]
@@ -43,15 +47,11 @@ fn empty_gate() -> Meeting {
 
 #[test]
 fn two_words_are_decoded_side_by_side(rt: HostRuntime) -> Result<(), Fail> {
-    let five = "frames 30 words 5 slots 379600\n";
-    let octets = zeros(rt.alloc(), 3_000)?;
-    let slots = written(&rt, &sound(ENCODE), &octets, Status::Done, five)?;
+    let slots = thirty_frames(&rt)?;
     let gate = empty_gate();
     let two = sound(&["hpe", "decode", "--workers", "2"]);
-    let kept =
-        "word 0 kept 1\nword 1 kept 1\nword 2 kept 1\nword 3 kept 1\nword 4 kept 1\nwords 5 kept 5 lost 0 frames 30 lead 0 tail 0\n";
-    let frames = written_past(&rt, &gate, &two, &slots, Status::Done, kept)?;
-    assert_eq!(rt; frames.as_slice(), octets.as_slice());
+    let frames = written_past(&rt, &gate, &two, &slots, Status::Done, FIVE_KEPT)?;
+    assert_eq!(rt; frames.as_slice(), zeros(rt.alloc(), 3_000)?.as_slice());
     assert!(rt; gate.seen[0].load(Ordering::SeqCst) && gate.seen[1].load(Ordering::SeqCst));
     Ok(())
 }
@@ -60,9 +60,7 @@ fn two_words_are_decoded_side_by_side(rt: HostRuntime) -> Result<(), Fail> {
 fn two_words_of_a_simulation_are_decoded_side_by_side(rt: HostRuntime) -> Result<(), Fail> {
     let gate = empty_gate();
     let two = sound(&["hpe", "simulate", "--frames", "30", "--workers", "2"]);
-    let kept =
-        "word 0 kept 1\nword 1 kept 1\nword 2 kept 1\nword 3 kept 1\nword 4 kept 1\nwords 5 kept 5 lost 0 frames 30 lead 0 tail 0\n";
-    let told = written_past(&rt, &gate, &two, &[], Status::Done, kept)?;
+    let told = written_past(&rt, &gate, &two, &[], Status::Done, FIVE_KEPT)?;
     // each of the 5 x 3796 pulses counts
     let line = "seed 0 frames 30 words 5 kept 5 lost 0 back 30 same 1 slots 379600 counts 18980\n";
     assert!(rt; told.as_slice() == line.as_bytes());

@@ -49,7 +49,7 @@ fn stages<L: Ledger>(blank: Blank) -> ([i32; 2], [i32; 2], [i32; 2])
     let from1 = [4, 3, 2, 1];
     let mut out = [9; 2];
     let forward = step_forward([0, 5], &from0, &from1, &mut steps);
-    let back = step_back([0, 0], &from0, &from1, [0, 0], &mut out, &mut steps);
+    let back = step_back::<L, 0>([0, 0], &from0, &from1, [0, 0], &mut out, &mut steps);
     (forward, back, out)
 }
 

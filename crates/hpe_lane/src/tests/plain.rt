@@ -6,8 +6,8 @@ ghost use Rattle.hpe_base.specs.Parameters.{clamp};
 ghost use Rattle.hpe_lane.specs.Bounds.{edge_most};
 
 use crate::{
-    best_by_parity, edge_scores, gray_scores, outer_back, outer_forward, plain, step_back,
-    step_forward,
+    Stage, best_by_parity, best_edges, edge_scores, gray_scores, outer_back, outer_forward, plain,
+    step_back, step_by_best, step_forward,
 };
 use hpe_base::Steps;
 use std::marker::Brand;
@@ -105,12 +105,36 @@ fn stages_agree<R: Abort, L: Ledger>(rt: &R, m: usize, from0: &[i32], from1: &[i
     assert!(rt; lanes == wanted, "forward with {m} bits");
     let mut soft = [0; 8];
     let mut wanted_soft = [0; 8];
-    let lanes = step_back(ROW, from0, from1, ROW, &mut soft[..m], &mut steps);
+    let lanes = step_back::<L, 0>(ROW, from0, from1, ROW, &mut soft[..m], &mut steps);
     let wanted = plain::step_back(ROW, from0, from1, ROW, &mut wanted_soft[..m], &mut steps);
     assert!(rt;
         lanes == wanted && soft == wanted_soft,
         "back with {m} bits"
     );
+}
+
+/// Compares a step by the best edges with one over lists of edges.
+fn best_agrees<R: Abort, L: Ledger>(rt: &R, counts: &[u16], l: &[i32], blank: Blank)
+    requires few { (2 ≤ length l.now) × (length l.now ≤ 8) }
+    requires counts { length counts.now ≡ 2 ^ length l.now }
+    requires name { blank.name ≡ L.name }
+    requires parts { blank.parts ≡ L.parts }
+    requires some { 0 < blank.parts }
+{
+    let size = counts.len();
+    assert!(rt; 2 <= size && size <= 256 && are_counts(counts) && are_numbers(l));
+    if l.len() < 4 {
+        return;
+    }
+    let mut from0 = [0; 256];
+    let mut from1 = [0; 256];
+    plain::edge_scores(counts, l, &mut from0[..size], &mut from1[..size]);
+    assert!(rt; are_edges(&from0[..size]) && are_edges(&from1[..size]));
+    let mut steps = Steps::<L>::new(blank);
+    let best = best_edges(counts, l);
+    let lanes = step_by_best(Stage { counts, l }, best, ROW, &mut steps);
+    let wanted = plain::step_forward(ROW, &from0[..size], &from1[..size], &mut steps);
+    assert!(rt; lanes == wanted, "best edges of {size}");
 }
 
 /// Compares the inner kernels for symbols of m bits.
@@ -128,6 +152,7 @@ fn order_agrees<R: Abort>(rt: &R, m: usize, size: usize)
         *count = (i % 101) as u16;
     }
     edges_agree(rt, &counts[..size], &numbers[..m]);
+    best_agrees::<R, Brand>(rt, &counts[..size], &numbers[..m], Blank::new(1));
     let scores = &numbers[..size];
     parities_agree(rt, scores, 1);
     parities_agree(rt, scores, size as u32 / 2);

@@ -10,10 +10,10 @@ use Rattle.hpe_lane.proofs.Joint.{in_fours, soft_joint, joint_near}
 use Rattle.hpe_lane.proofs.stage.write_soft.Goals as goal
 
 pub join-requires-clause-fours : goal.join-requires-clause-fours
-join-requires-clause-fours c = ap (λ (n : ℕ). n % 4) c.requires.joint ∙ in_fours (length c.args.out.now) c.requires.edges.few.0
+join-requires-clause-fours g c = ap (λ (n : ℕ). n % 4) c.requires.joint ∙ in_fours (length c.args.out.now) c.requires.edges.few.0
 
 pub join-requires-clause-around0 : goal.join-requires-clause-around0
-join-requires-clause-around0 c =
+join-requires-clause-around0 g c =
     let f : ℤ = number_at c.args.fore 0 in
     let b : ℤ = number_at c.args.back 0 in
     let d : ℤ = number_at c.args.back 1 in
@@ -21,7 +21,7 @@ join-requires-clause-around0 c =
     at_pair (sum32 f b) (sum32 f d) (λ (s : ℕ) (z : ℤ). Within 1700000000 z) (around_within f b hf (c.requires.back 0 (omega arith))) (around_within f d hf (c.requires.back 1 (omega arith)))
 
 pub join-requires-clause-around1 : goal.join-requires-clause-around1
-join-requires-clause-around1 c =
+join-requires-clause-around1 g c =
     let f : ℤ = number_at c.args.fore 1 in
     let b : ℤ = number_at c.args.back 0 in
     let d : ℤ = number_at c.args.back 1 in
@@ -47,7 +47,7 @@ module _ (fore back : List ℤ) (hf : (s : ℕ) → s < 2 → Within 1100000000 
       (around_is (number_at fore 1) (number_at back 0) (hf 1 (omega arith)) (hb 0 (omega arith)))
 
 pub fold_soft-requires-clause-near : goal.fold_soft-requires-clause-near
-fold_soft-requires-clause-near c =
+fold_soft-requires-clause-near g c =
     let m : ℕ = length c.args.out.now in
     let joint : List ℤ = c.join.new.joint in
     let long : length joint ≡ 2 ^ m = omega arith in
@@ -58,7 +58,7 @@ fold_soft-requires-clause-near c =
     c.requires.edges.small0 c.requires.edges.small1 c.requires.back)
 
 pub returns : goal.returns
-returns c = λ i h.
+returns g c = λ i h.
     let m : ℕ = length c.args.out.now in
     let joint : List ℤ = c.join.new.joint in
     let long : length joint ≡ 2 ^ m = omega arith in

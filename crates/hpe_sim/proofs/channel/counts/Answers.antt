@@ -4,8 +4,9 @@ use Rattle.rand_pcg.specs.Lcg.{Lcg}
 use Rattle.rand_pcg.specs.Pcg.{pcg32}
 use Rattle.hpe_base.specs.Counts.{counts_of}
 use Rattle.hpe_sim.specs.Simulated.{channel_counts, generator, words_of}
-use Rattle.hpe_sim.proofs.Octets.{counts_all, counts_more, counts_none, length-counts_of}
+use Rattle.hpe_sim.proofs.Octets.{counts_all, counts_more, counts_none}
 use Rattle.hpe_sim.proofs.Words.{length-words, word_next}
+use Rattle.hpe_base.proofs.Counts.{length-counts_of}
 use Rattle.hpe_sim.proofs.channel.counts.Goals as goal
 
 pub loop-i-init : goal.loop-i-init

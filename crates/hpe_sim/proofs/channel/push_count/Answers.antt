@@ -1,7 +1,7 @@
 use Rattle.std.proofs.Common.{◌≡◌, ◌++◌, ◌∷◌, [], ℕ, List, ap, sym, ◌∙◌, arith, append_assoc}
 use Rattle.hpe_base.specs.Counts.{low_octet}
 use Rattle.hpe_base.specs.Lists.{tabulate}
-use Rattle.hpe_sim.proofs.Octets.{octet_of_one, octets_of_two}
+use Rattle.hpe_base.proofs.Counts.{octet_of_one, octets_of_two}
 use Rattle.hpe_sim.proofs.channel.push_count.Goals as goal
 
 pub returns-then-width-eq1-clause-items : goal.returns-then-width-eq1-clause-items

@@ -9,10 +9,10 @@ rest_none : (n e : ℕ) → e ≡ n → 0 ≡ n - e
 rest_none n e h = omega arith
 
 -- past the last step there is no bit
-SoftFrom-none : (columns : List (List Bool)) (l : List ℤ) (n e : ℕ) (info code : List ℤ) → e ≡ n + 2 → length l ≡ kept_before columns (n + 2) → SoftFrom columns l n e (kept_before columns e) info code
+SoftFrom-none : (columns : List (List Bool)) (l : List ℤ) (n e : ℕ) (info code : List ℤ) → e ≡ n + 2 → length l ≡ kept_before columns (n + 2) → SoftFrom columns l n e info code
 SoftFrom-none columns l n e info code h long =
     let z : n + 2 ≡ e = sym h in
-    subst (λ (t : ℕ). SoftFrom columns l n t (kept_before columns t) info code) z record {
+    subst (λ (t : ℕ). SoftFrom columns l n t info code) z record {
       information = λ j le lt. absurd {A = IsInformationSoft columns l n j (number_at info j)} (omega arith);
       code_bits = λ i le lt. absurd {A = IsCodeSoft columns l n i (number_at code i)} (omega arith);
     }
@@ -57,8 +57,8 @@ window_values-before-requires-clause-soft g c =
     let long : length c.args.info.now ≡ length c.loop-k.info = omega arith in
     let lw : w < windows n = omega arith in
     let e : windows_end n (length c.args.kept.now - c.loop-k.k) ≡ 64 * w + c.min-count.result = omega (arith, c.min-count.ensures) in
-    subst (λ (i : ℕ). SoftFrom columns c.args.word.l.now i (64 * w + c.min-count.result) (kept_before columns (64 * w + c.min-count.result)) c.loop-k.info c.loop-k.code) long
-    (subst (λ (t : ℕ). SoftFrom columns c.args.word.l.now (length c.args.info.now) t (kept_before columns t) c.loop-k.info c.loop-k.code) e c.loop-k.invariant.soft)
+    subst (λ (i : ℕ). SoftFrom columns c.args.word.l.now i (64 * w + c.min-count.result) c.loop-k.info c.loop-k.code) long
+    (subst (λ (t : ℕ). SoftFrom columns c.args.word.l.now (length c.args.info.now) t c.loop-k.info c.loop-k.code) e c.loop-k.invariant.soft)
 
 pub loop-k-preserved : goal.loop-k-preserved
 loop-k-preserved g c =
@@ -75,8 +75,8 @@ loop-k-preserved g c =
     let long : length c.loop-k.info ≡ length c.args.info.now = omega arith in
     record {
       back = subst (λ (t : ℕ). OuterBack t (n - t) columns l next) s (subst (λ (i : ℕ). OuterBack (64 * w) (i + 2 - 64 * w) columns l next) long c.window_values-before.ensures.row);
-      soft = subst (λ (t : ℕ). SoftFrom columns l (length c.args.info.now) t (kept_before columns t) c.window_values-before.new.info c.window_values-before.new.code) s
-          (subst (λ (i : ℕ). SoftFrom columns l i (64 * w) (kept_before columns (64 * w)) c.window_values-before.new.info c.window_values-before.new.code) long c.window_values-before.ensures.soft);
+      soft = subst (λ (t : ℕ). SoftFrom columns l (length c.args.info.now) t c.window_values-before.new.info c.window_values-before.new.code) s
+          (subst (λ (i : ℕ). SoftFrom columns l i (64 * w) c.window_values-before.new.info c.window_values-before.new.code) long c.window_values-before.ensures.soft);
       cost = omega (arith, c.window_rows.ensures.cost, c.window_values-before.ensures.cost, c.loop-k.invariant.cost, e, s);
     }
 
@@ -84,4 +84,4 @@ pub returns-clause-soft : goal.returns-clause-soft
 returns-clause-soft g c =
     let columns : List (List Bool) = c.args.word.columns.now in
     let z : windows_end (length c.args.info.now + 2) (length c.args.kept.now - c.loop-k.k) ≡ 0 = omega arith in
-    subst (λ (t : ℕ). SoftFrom columns c.args.word.l.now (length c.args.info.now) t (kept_before columns t) c.loop-k.info c.loop-k.code) z c.loop-k.invariant.soft
+    subst (λ (t : ℕ). SoftFrom columns c.args.word.l.now (length c.args.info.now) t c.loop-k.info c.loop-k.code) z c.loop-k.invariant.soft

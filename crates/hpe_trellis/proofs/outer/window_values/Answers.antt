@@ -23,7 +23,7 @@ loop-k-init g c =
       back = subst (λ (t : ℕ). OuterBack t (n + 2 - t) columns l c.args.back) z c.requires.later;
       place = ap (λ (t : ℕ). t % length columns) z;
       at = at ∙ ap (kept_before columns) z;
-      soft = subst (λ (t : ℕ). SoftFrom columns l n t c.kept_length-at.result c.args.info.now c.args.code.now) z (subst (λ (k : ℕ). SoftFrom columns l n e k c.args.info.now c.args.code.now) (sym at) c.requires.soft);
+      soft = subst (λ (t : ℕ). SoftFrom columns l n t c.args.info.now c.args.code.now) z c.requires.soft;
       cost = omega arith;
     }
 
@@ -129,14 +129,13 @@ loop-k-preserved g c =
     let cap : kept_before columns (n + 2) ≤ 15120 = before_cap columns (n + 2) (n + 2) (length l) (omega arith) c.requires.l c.requires.word.short in
     let same : StepIs columns l t r = step_is columns l t place now r turn at_now c.step_numbers-numbers.ensures.edge in
     let later : OuterBack (t + 1) left columns l back = subst (λ (k : ℕ). OuterBack k left columns l back) here c.loop-k.invariant.back in
-    let so_far : SoftFrom columns l n (t + 1) c.loop-k.at c.loop-k.info c.loop-k.code = subst (λ (k : ℕ). SoftFrom columns l n k c.loop-k.at c.loop-k.info c.loop-k.code) here c.loop-k.invariant.soft in
-    let at_then : c.loop-k.at ≡ kept_before columns (t + 1) = c.loop-k.invariant.at ∙ ap (kept_before columns) here in
+    let so_far : SoftFrom columns l n (t + 1) c.loop-k.info c.loop-k.code = subst (λ (k : ℕ). SoftFrom columns l n k c.loop-k.info c.loop-k.code) here c.loop-k.invariant.soft in
     let lc : length c.loop-k.code ≡ length l = omega arith in
     let li : length c.loop-k.info ≡ n = omega arith in
     let end : kept_before columns (t + 1) ≤ length l = omega (arith, room, before_next columns t, at_now) in
     let first : kept_z (get_or soft 0 (pos 0)) ≡ number_at soft 0 = search rules in
-    let values : SoftFrom columns l n t now c.put_information.new.info (put_all (column columns t) (number_at soft 1 ∷ number_at soft 2 ∷ number_at soft 3 ∷ []) c.loop-k.code now) =
-    SoftFrom-more columns l n t c.loop-k.at now c.loop-k.info c.loop-k.code c.put_information.new.info soft lc end at_then at_now so_far
+    let values : SoftFrom columns l n t c.put_information.new.info (put_all (column columns t) (number_at soft 1 ∷ number_at soft 2 ∷ number_at soft 3 ∷ []) c.loop-k.code now) =
+    SoftFrom-more columns l n t now c.loop-k.info c.loop-k.code c.put_information.new.info soft lc end at_now so_far
     (λ h. c.put_information.ensures.here (subst (λ (k : ℕ). t < k) (sym li) h) ∙ first) c.put_information.ensures.others
     (λ h. info-here columns l c.requires.word.within n t c.requires.free.0 cap c.requires.l left all fore back r soft same (c.requires.rows i li_rows) later c.outer_back.ensures.soft h)
     (code-here columns l c.requires.word.within n t c.requires.free.0 cap c.requires.l left all fore back r soft same (c.requires.rows i li_rows) later c.outer_back.ensures.soft) in
@@ -147,7 +146,7 @@ loop-k-preserved g c =
           (subst (λ (k : ℕ). OuterBack t k columns l c.outer_back.result.0) more (OuterBack-more columns l t left r back c.outer_back.result.0 same later c.outer_back.ensures.row));
       place = turn ∙ ap (λ (k : ℕ). k % length columns) to;
       at = at_now ∙ ap (kept_before columns) to;
-      soft = subst (λ (k : ℕ). SoftFrom columns l n k now c.put_information.new.info c.put_soft.new.code) to (subst (SoftFrom columns l n t now c.put_information.new.info) (sym written) values);
+      soft = subst (λ (k : ℕ). SoftFrom columns l n k c.put_information.new.info c.put_soft.new.code) to (subst (SoftFrom columns l n t c.put_information.new.info) (sym written) values);
       cost = omega (arith, c.outer_back.ensures.step, c.loop-k.invariant.cost);
     }
 
@@ -161,6 +160,4 @@ returns-clause-soft g c =
     let columns : List (List Bool) = c.args.word.columns.now in
     let n : ℕ = length c.args.info.now in
     let e : c.args.span.start + c.args.span.count - c.loop-k.k ≡ c.args.span.start = omega arith in
-    let at : c.loop-k.at ≡ kept_before columns c.args.span.start = c.loop-k.invariant.at ∙ ap (kept_before columns) e in
-    subst (λ (k : ℕ). SoftFrom columns c.args.word.l.now n c.args.span.start k c.loop-k.info c.loop-k.code) at
-    (subst (λ (t : ℕ). SoftFrom columns c.args.word.l.now n t c.loop-k.at c.loop-k.info c.loop-k.code) e c.loop-k.invariant.soft)
+    subst (λ (t : ℕ). SoftFrom columns c.args.word.l.now n t c.loop-k.info c.loop-k.code) e c.loop-k.invariant.soft

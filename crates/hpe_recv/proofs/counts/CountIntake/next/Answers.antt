@@ -3,7 +3,8 @@ use Rattle.std.proofs.Math.Nat.{div-le_of_le-mul}
 use Rattle.std.proofs.lemmas.List.{with_items_is, length-take}
 use Rattle.hpe_base.specs.Counts.{counts_of}
 use Rattle.hpe_recv.specs.Counting.{HasCounted, half_octets}
-use Rattle.hpe_recv.proofs.Counting.{counted_none, counted_more, half_room, kept_less, few_more, length-counts_of}
+use Rattle.hpe_recv.proofs.Counting.{counted_none, counted_more, half_room, kept_less, few_more}
+use Rattle.hpe_base.proofs.Counts.{length-counts_of}
 use Rattle.hpe_recv.proofs.counts.CountIntake.next.Goals as goal
 
 pub returns-then-not-branch-clause-come : goal.returns-then-not-branch-clause-come

@@ -22,7 +22,7 @@ round_is r s e = cc
 pub loop-before-init : goal.loop-before-init
 loop-before-init g c = record {
   profile = c.begin.ensures.profile;
-  gone = HasGone-none c.args.self.now.profile c.args.counts.now c.begin.new.self.inner_numbers.items c.begin.ensures.numbers;
+  gone = HasGone-none c.args.self.now.profile c.args.counts.now c.begin.new.self.numbers.items c.begin.ensures.numbers;
   small = subst (AllWithin 16383) (sym c.begin.ensures.numbers) (zeros_within codeword_bits);
   block = refl;
   cost = omega arith;
@@ -59,8 +59,8 @@ pub returns-then-is_some-clause-checked : goal.returns-then-is_some-clause-check
 returns-then-is_some-clause-checked g c = λ round e.
     let p = c.args.self.now.profile in
     let counts : List ℕ = c.args.counts.now in
-    let l : List ℤ = c.loop-before.self.inner_numbers.items in
-    let lo : List ℤ = c.inner_half.new.self.outer_numbers.items in
+    let l : List ℤ = c.loop-before.self.numbers.items in
+    let lo : List ℤ = c.inner_half.new.self.numbers.items in
     let hard : List ℕ = c.outer_half.new.self.hard.items in
     let block : List ℕ = c.open_block.new.into in
     let same1 : c.loop-before.self.profile ≡ p = c.loop-before.invariant.profile in
@@ -107,8 +107,8 @@ pub loop-before-preserved : goal.loop-before-preserved
 loop-before-preserved g c =
     let p = c.args.self.now.profile in
     let counts : List ℕ = c.args.counts.now in
-    let l : List ℤ = c.loop-before.self.inner_numbers.items in
-    let lo : List ℤ = c.inner_half.new.self.outer_numbers.items in
+    let l : List ℤ = c.loop-before.self.numbers.items in
+    let lo : List ℤ = c.inner_half.new.self.numbers.items in
     let hard : List ℕ = c.outer_half.new.self.hard.items in
     let same1 : c.loop-before.self.profile ≡ p = c.loop-before.invariant.profile in
     let same2 : c.inner_half.new.self.profile ≡ p = c.inner_half.ensures.profile ∙ same1 in
@@ -118,14 +118,14 @@ loop-before-preserved g c =
     let wrong : is_right p hard ≡ false =
     ap₂ (λ (q : Parameters) (xs : List ℕ). is_right q xs) (sym same3) (sym c.deref.ensures.value)
     ∙ not_true _ (λ t. let some : IsSome c.open_block.result = c.open_block.ensures.right.1 t in search (rules, some)) in
-    let next : c.hand_back.new.self.inner_numbers.items ≡ next_numbers p lo =
+    let next : c.hand_back.new.self.numbers.items ≡ next_numbers p lo =
     c.hand_back.ensures.numbers ∙ ap₂ (λ (q : Parameters) (xs : List ℤ). next_numbers q xs) same3 c.outer_half.ensures.numbers in
     let left : c.open_block.new.into ≡ c.loop-before.block = search rules in
     let outer : code_steps c.inner_half.new.self.profile.rate ≡ code_steps p.rate = ap (λ (q : Parameters). code_steps q.rate) same2 in
     let inner : codeword_symbols c.loop-before.self.profile.order ≡ codeword_symbols p.order = ap (λ (q : Parameters). codeword_symbols q.order) same1 in
     record {
       profile = c.hand_back.ensures.profile ∙ same3;
-      gone = HasGone-more p counts c.loop-before.before l lo c.hand_back.new.self.inner_numbers.items hard c.loop-before.invariant.gone lo_is hard_is wrong next;
+      gone = HasGone-more p counts c.loop-before.before l lo c.hand_back.new.self.numbers.items hard c.loop-before.invariant.gone lo_is hard_is wrong next;
       small = c.hand_back.ensures.small;
       block = left ∙ c.loop-before.invariant.block;
       cost = omega (
@@ -138,7 +138,7 @@ loop-before-preserved g c =
 
 pub returns-clause-lost : goal.returns-clause-lost
 returns-clause-lost g c = λ e. (
-  HasGone-all c.args.self.now.profile c.args.counts.now c.loop-before.before c.loop-before.self.inner_numbers.items
+  HasGone-all c.args.self.now.profile c.args.counts.now c.loop-before.before c.loop-before.self.numbers.items
       (omega (arith, c.rounds-before-end.ensures.value ∙ ap (λ (q : Parameters). q.rounds) c.begin.ensures.profile)) c.loop-before.invariant.gone,
   c.loop-before.invariant.block,
 )

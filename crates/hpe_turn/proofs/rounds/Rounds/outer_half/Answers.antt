@@ -25,7 +25,7 @@ pub returns-clause-hard : goal.returns-clause-hard
 returns-clause-hard g c =
     let lists = c.args.self.now in
     let p = lists.profile in
-    let lo : List ℤ = lists.outer_numbers.items in
+    let lo : List ℤ = lists.numbers.items in
     let information : List ℤ = c.outer_soft.new.info in
     let hard : List ℕ = c.decide.new.hard in
     let lent : c.deref-2.result.now ≡ information = c.deref-2.ensures.value ∙ whole_taken lists.information.len information _ (omega arith) in

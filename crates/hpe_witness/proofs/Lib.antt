@@ -1,0 +1,13 @@
+pub mod EdgeScores
+pub mod Paths
+pub mod Potentials
+pub mod Survivors
+pub mod Before
+pub mod Traceback
+pub mod BestPath
+pub mod MetricRows
+pub mod BestWord
+pub mod ReadBack
+pub mod PathAnswers
+pub mod Writing
+pub mod RecordLaw
