@@ -1,1 +1,5 @@
 mod Changed
+mod FullSinks
+mod TakenOctets
+mod SentFrames
+mod ReceivedCounts
