@@ -134,15 +134,15 @@ high_edge counts (x ∷ l) v h e =
     ∙ bit_less n x (gray_from 1 l v)
     ∙ sym (ap (λ (c : ℕ). (pos n +ℤ (cond (nat_eq c 0) (pos 0) x +ℤ gray_from c l v)) -ℤ x) b)
 
-edge_sizes : (n k : ℕ) (z : ℤ) → n ≤ 16383 → k ≤ 8 → Within (k * 16383) z → Within 147447 (pos n +ℤ z)
+pub edge_sizes : (n k : ℕ) (z : ℤ) → n ≤ 16383 → k ≤ 8 → Within (k * 16383) z → Within 147447 (pos n +ℤ z)
 edge_sizes n k z hn hk h = (let a = h.0 in omega (arith, ints), let a = h.1 in omega (arith, ints))
 
 pub stage-within : (counts : List ℕ) (l : List ℤ) (s v : ℕ) → length l ≤ 8 → ((i : ℕ) → get_or counts i 0 ≤ 16383) → AllWithin 16383 l → Within 147447 (stage_edge counts l s v)
 stage-within counts l s v short most within = edge_sizes (get_or counts v 0) (length l) (gray_from s l v) (most v) short (gray-within 16383 s l v within)
 
 -- and so are the best edges
-pub best_within : (counts : List ℕ) (l best : List ℤ) → IsStage counts l → AreBestEdges (length l) (stage_edge counts l 0) best → (f b : ℕ) → f < 2 → b < 2 → Within 147447 (number_at best (2 * f + b))
-best_within counts l best stage is f b lf lb = IsGreatest-within 147447 (λ v. stage-within counts l 0 v stage.few.1 stage.most stage.within) (is f b lf lb)
+pub best_within : (counts : List ℕ) (l best : List ℤ) (s : ℕ) → IsStage counts l → AreBestEdges (length l) (stage_edge counts l s) best → (f b : ℕ) → f < 2 → b < 2 → Within 147447 (number_at best (2 * f + b))
+best_within counts l best s stage is f b lf lb = IsGreatest-within 147447 (λ v. stage-within counts l s v stage.few.1 stage.most stage.within) (is f b lf lb)
 
 -- ---- both states at once
 
@@ -216,10 +216,10 @@ entry_less a x h k =
 entry_is : (a : ℤ) → Within 1099983617 a → to_z w32 (of_z w32 a) ≡ a
 entry_is a h = omega (arith, ints)
 
-sum_is : (a x : ℤ) → Within 1099983617 a → Within 16383 x → to_z w32 (of_z w32 (to_z w32 (of_z w32 a) +ℤ to_z w32 (of_z w32 x))) ≡ a +ℤ x
+pub sum_is : (a x : ℤ) → Within 1099983617 a → Within 16383 x → to_z w32 (of_z w32 (to_z w32 (of_z w32 a) +ℤ to_z w32 (of_z w32 x))) ≡ a +ℤ x
 sum_is a x h k = omega (arith, ints)
 
-less_is : (a x : ℤ) → Within 1099983617 a → Within 16383 x → to_z w32 (of_z w32 (to_z w32 (of_z w32 a) -ℤ to_z w32 (of_z w32 x))) ≡ a -ℤ x
+pub less_is : (a x : ℤ) → Within 1099983617 a → Within 16383 x → to_z w32 (of_z w32 (to_z w32 (of_z w32 a) -ℤ to_z w32 (of_z w32 x))) ≡ a -ℤ x
 less_is a x h k = omega (arith, ints)
 
 sum_within : (a x : ℤ) → Within 1099983617 a → Within 16383 x → Within 1100000000 (a +ℤ x)

@@ -15,6 +15,7 @@ pub mod Vectors
 pub mod Blocks
 pub mod GrayParts
 pub mod BestEdges
+pub mod BestBack
 pub mod EndBests
 pub mod Eights
 pub mod WindowEnds

@@ -123,21 +123,21 @@ even_or_odd : (k : ℕ) → (k % 2 ≡ 0) ⊎ (k % 2 ≡ 1)
 even_or_odd k = ⊎_elim (λ (h : k % 2 < 1). inl (omega arith)) (λ (h : 1 ≤ k % 2). inr (omega arith)) (cases_lt (k % 2) 1)
 
 -- the greatest of a state's edges with what comes after them, from its best edges to each state
-pub after_top : (from back : List ℤ) (n : ℕ) (e o : ℤ) → IsGreatest (HasParity n 1 0) (number_at from) e → IsGreatest (HasParity n 1 1) (number_at from) o
-    → IsGreatest (λ (v : ℕ). v < n) (λ v. number_at from v +ℤ number_at back (v % 2)) (int_max (number_at back 0 +ℤ e) (number_at back 1 +ℤ o))
-after_top from back n e o g h =
+pub after_top : (edge : ℕ → ℤ) (back : List ℤ) (n : ℕ) (e o : ℤ) → IsGreatest (HasParity n 1 0) edge e → IsGreatest (HasParity n 1 1) edge o
+    → IsGreatest (λ (v : ℕ). v < n) (λ v. edge v +ℤ number_at back (v % 2)) (int_max (number_at back 0 +ℤ e) (number_at back 1 +ℤ o))
+after_top edge back n e o g h =
     IsGreatest-join (λ v p. p.0) (λ v p. p.0)
     (λ v p. ⊎_elim (λ b. inl (p, parity_of_one v ∙ b)) (λ b. inr (p, parity_of_one v ∙ b)) (even_or_odd v))
     (with_back 0 e g) (with_back 1 o h)
   where
-    with_back : (b : ℕ) (z : ℤ) → IsGreatest (HasParity n 1 b) (number_at from) z → IsGreatest (HasParity n 1 b) (λ v. number_at from v +ℤ number_at back (v % 2)) (number_at back b +ℤ z)
+    with_back : (b : ℕ) (z : ℤ) → IsGreatest (HasParity n 1 b) edge z → IsGreatest (HasParity n 1 b) (λ v. edge v +ℤ number_at back (v % 2)) (number_at back b +ℤ z)
     with_back b z g = record {
       reached = (g.reached.0, (g.reached.1.0, same g.reached.0 g.reached.1.0.1 ∙ ap (λ (x : ℤ). number_at back b +ℤ x) g.reached.1.1));
-      bound = λ v p. subst (λ (x : ℤ). x ≤ℤ (number_at back b +ℤ z)) (sym (same v p.1)) (plus_mono (number_at back b) (number_at from v) z (g.bound v p));
+      bound = λ v p. subst (λ (x : ℤ). x ≤ℤ (number_at back b +ℤ z)) (sym (same v p.1)) (plus_mono (number_at back b) (edge v) z (g.bound v p));
     }
       where
-        same : (v : ℕ) → count_ones (bit_and v 1) % 2 ≡ b → number_at from v +ℤ number_at back (v % 2) ≡ number_at back b +ℤ number_at from v
-        same v e = ap (λ (k : ℕ). number_at from v +ℤ number_at back k) (sym (parity_of_one v) ∙ e) ∙ plus_swap (number_at from v) (number_at back b)
+        same : (v : ℕ) → count_ones (bit_and v 1) % 2 ≡ b → edge v +ℤ number_at back (v % 2) ≡ number_at back b +ℤ edge v
+        same v e = ap (λ (k : ℕ). edge v +ℤ number_at back k) (sym (parity_of_one v) ∙ e) ∙ plus_swap (edge v) (number_at back b)
 
 -- the sum of a forward and a backward row's numbers, as the code has it
 abbrev pub sum32 : ℤ → ℤ → ℤ

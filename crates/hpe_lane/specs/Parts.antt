@@ -42,7 +42,13 @@ pub record AreParts (counts : List ℕ) (blocks eight : List ℤ) : Type 0 where
   pub small : AllWithin (5 * clamp) blocks
   pub small_eight : AllWithin (3 * clamp) eight
 
--- at place u the greater of that edge and of its mirror image, with what stands around them
-abbrev pub joint_edge : ℕ → (ℕ → ℤ) → List ℤ → List ℤ → ℕ → ℤ
-joint_edge n edge around0 around1 u =
-    int_max (number_at around0 (u % 2) +ℤ edge u) (number_at around1 (u % 2) +ℤ edge (n - 1 - u))
+-- at place v of n the greater of that edge of state 0 and of its mirror image of state 1, with what stands around them
+abbrev pub joint_edge : ℕ → (ℕ → ℕ → ℤ) → List ℤ → List ℤ → ℕ → ℤ
+joint_edge n edge around0 around1 v =
+    int_max (number_at around0 (v % 2) +ℤ edge 0 v) (number_at around1 (v % 2) +ℤ edge 1 (n - 1 - v))
+
+-- the same in parts: the mirror image has the same sum with its own count
+abbrev pub joint_part : List ℕ → List ℤ → List ℤ → List ℤ → List ℤ → ℕ → ℤ
+joint_part counts blocks eight around0 around1 v =
+    int_max (number_at around0 (v % 2) +ℤ part_edge counts blocks eight v)
+    (number_at around1 (v % 2) +ℤ (pos (slice_index counts (length counts - 1 - v)) +ℤ part_sum blocks eight v))

@@ -39,7 +39,7 @@ pub(crate) fn write_parts(l: &[i32], blocks: &mut [i32], eight: &mut [i32])
 
 /// What the symbols of a block score by the numbers.
 #[inline(always)]
-fn sums_of_block(parts: Parts, w: usize) -> [i32; 8]
+pub(crate) fn sums_of_block(parts: Parts, w: usize) -> [i32; 8]
     requires parts { AreParts parts.counts.now parts.blocks.now parts.eight.now }
     requires inside { w < length parts.blocks.now }
     ensures { (j : ℕ) → j < 8

@@ -26,6 +26,13 @@ pub struct Stage<'a> {
     pub l: &'a [i32],
 }
 
+/// The rows that a stage stands between: what each state scores before it, and what from its end on.
+#[derive(Clone, Copy)]
+pub struct Between {
+    pub fore: [i32; 2],
+    pub back: [i32; 2],
+}
+
 /// At place `b`, the greatest of `row[s] + from_s[v]` over both `s` and all `v` that end in `b`.
 #[inline(always)]
 pub fn step_forward<L: Ledger>(

@@ -6,8 +6,8 @@ ghost use Rattle.hpe_base.specs.Parameters.{clamp};
 ghost use Rattle.hpe_lane.specs.Bounds.{edge_most};
 
 use crate::{
-    Stage, best_by_parity, best_edges, edge_scores, gray_scores, outer_back, outer_forward, plain,
-    step_back, step_by_best, step_forward,
+    Between, Stage, best_by_parity, best_edges, edge_scores, gray_scores, outer_back,
+    outer_forward, plain, step_back, step_back_by_best, step_by_best, step_forward,
 };
 use hpe_base::Steps;
 use std::marker::Brand;
@@ -113,7 +113,7 @@ fn stages_agree<R: Abort, L: Ledger>(rt: &R, m: usize, from0: &[i32], from1: &[i
     );
 }
 
-/// Compares a step by the best edges with one over lists of edges.
+/// Compares steps by the best edges with those over lists of edges.
 fn best_agrees<R: Abort, L: Ledger>(rt: &R, counts: &[u16], l: &[i32], blank: Blank)
     requires few { (2 ≤ length l.now) × (length l.now ≤ 8) }
     requires counts { length counts.now ≡ 2 ^ length l.now }
@@ -135,6 +135,32 @@ fn best_agrees<R: Abort, L: Ledger>(rt: &R, counts: &[u16], l: &[i32], blank: Bl
     let lanes = step_by_best(Stage { counts, l }, best, ROW, &mut steps);
     let wanted = plain::step_forward(ROW, &from0[..size], &from1[..size], &mut steps);
     assert!(rt; lanes == wanted, "best edges of {size}");
+    let mut soft = [0; 8];
+    let mut wanted_soft = [0; 8];
+    let mut joint = [0; 256];
+    let lanes = step_back_by_best::<L, 0>(
+        Stage { counts, l },
+        best,
+        Between {
+            fore: ROW,
+            back: ROW,
+        },
+        &mut joint[..size],
+        &mut soft[..l.len()],
+        &mut steps,
+    );
+    let wanted = plain::step_back(
+        ROW,
+        &from0[..size],
+        &from1[..size],
+        ROW,
+        &mut wanted_soft[..l.len()],
+        &mut steps,
+    );
+    assert!(rt;
+        lanes == wanted && soft == wanted_soft,
+        "back by the best edges of {size}"
+    );
 }
 
 /// Compares the inner kernels for symbols of m bits.

@@ -14,4 +14,4 @@ returns c =
     let e = max_of_sums (number_at back 0) (number_at best 0) (number_at back 1) (number_at best 1) c.max.result
     (back_wide back c.requires.back 0 (omega arith)) (IsGreatest-within 147447 c.requires.edges even) (back_wide back c.requires.back 1 (omega arith)) (IsGreatest-within 147447 c.requires.edges odd) c.max.ensures.value in
     subst (IsGreatest (λ (v : ℕ). v < length from) (λ v. number_at from v +ℤ number_at back (v % 2))) (sym e)
-    (after_top from back (length from) (number_at best 0) (number_at best 1) even odd)
+    (after_top (number_at from) back (length from) (number_at best 0) (number_at best 1) even odd)
