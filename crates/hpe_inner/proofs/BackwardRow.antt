@@ -4,7 +4,6 @@ use Rattle.std.specs.Prelude.{IsSome}
 use Rattle.std.proofs.lemmas.Int.{ints}
 use Rattle.std.proofs.lemmas.List.{places, length-take}
 use Rattle.std.proofs.Math.Nat.{mul-le-mul_right, div-lt_iff_lt-mul}
-use borrow.Rule.Slice.PartMut.{put_mid}
 use Rattle.hpe_base.specs.Parameters.{symbol_bits}
 use Rattle.hpe_base.specs.Sizes.{number_at, Within}
 use Rattle.hpe_base.specs.Greatest.{IsGreatest, IsSoft}
@@ -111,18 +110,6 @@ soft_whole m k n t size counts l fore back new ek es el lt h =
     let one = subst (λ (x : List ℕ). C x (take ((t + 1) * k - t * k) (drop (t * k) l)) (length (take ((t + 1) * k - t * k) (drop (t * k) l)))) (cut_is t size (2 ^ m) counts es) h in
     let two = subst (λ (y : List ℤ). C (take (2 ^ m) (drop (t * 2 ^ m) counts)) y (length y)) (cut_is t k m l ek) one in
     subst (λ (j : ℕ). C (take (2 ^ m) (drop (t * 2 ^ m) counts)) (take m (drop (t * m) l)) j) (cut_long t m n l el lt) two
-
--- ---- blocks of a list that is written from the end
-block_end : (t m n : ℕ) → t < n → t * m + m ≤ n * m
-block_end t m n h = let e : (t + 1) * m ≡ t * m + m = omega arith in let le : t + 1 ≤ n = omega arith in let p : (t + 1) * m ≤ n * m = mul-le-mul_right m le in omega arith
-
-pub block_at : (xs ys : List ℤ) (t k m n i : ℕ) → k ≡ m → length ys ≡ m → length xs ≡ n * m → t < n → i < m → number_at (put_mid (t * k) ((t + 1) * k - t * k) xs ys) (t * m + i) ≡ number_at ys i
-block_at xs ys t k m n i e ly lx lt li =
-    ap (λ (j : ℕ). number_at (put_mid (t * j) ((t + 1) * j - t * j) xs ys) (t * m + i)) e ∙ (let r = block_end t m n lt in search (rules, places))
-
-pub block_above : (xs ys : List ℤ) (t k s m n i : ℕ) → k ≡ m → length ys ≡ m → length xs ≡ n * m → t < s → s < n → i < m → number_at (put_mid (t * k) ((t + 1) * k - t * k) xs ys) (s * m + i) ≡ number_at xs (s * m + i)
-block_above xs ys t k s m n i e ly lx ts lt li =
-    ap (λ (j : ℕ). number_at (put_mid (t * j) ((t + 1) * j - t * j) xs ys) (s * m + i)) e ∙ (let r = block_end t m s ts in let q = block_end s m n lt in search (rules, places))
 
 two_is : (row : List ℤ) (x y : ℤ) → x ≡ number_at row 0 → y ≡ number_at row 1 → (s : ℕ) → s < 2 → number_at row s ≡ number_at (x ∷ y ∷ []) s
 two_is row x y ex ey zero h = sym ex

@@ -3,6 +3,7 @@ pub mod Words
 pub mod PathScore
 pub mod BestWord
 pub mod ForwardRow
+pub mod KeptEdges
 pub mod BackwardRow
 pub mod Orders
 pub mod ScoreBounds

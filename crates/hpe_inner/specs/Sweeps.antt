@@ -5,7 +5,7 @@ use Rattle.hpe_base.proofs.Trellis.{Fore, Back}
 use Rattle.hpe_base.specs.Sizes.{number_at, Within, AllWithin}
 use Rattle.hpe_base.specs.GreatestScores.{inner_top}
 use Rattle.hpe_base.specs.declared.profile.Order.{Order}
-use Rattle.hpe_lane.specs.Parts.{entry_most, stage_edge}
+use Rattle.hpe_lane.specs.Parts.{AreBestEdges, entry_most, stage_edge}
 use Rattle.hpe_lane.specs.Windows.{window, windows}
 use Rattle.hpe_base.specs.Parameters.{clamp, symbol_bits, positions, codeword_bits}
 
@@ -63,6 +63,15 @@ AreForwardRows m start count counts l rows =
 abbrev pub AreKeptRows : ℕ → ℕ → List ℕ → List ℤ → List (List ℤ) → Type 0
 AreKeptRows m n counts l kept =
     (w : ℕ) → w < windows n → IsForwardRow m (window * w) counts l (slice_index_or kept w [])
+
+-- the best edges of a stage in the first four of its places, where it has so many
+abbrev pub KeepsEdges : List ℕ → List ℤ → List ℤ → Type 0
+KeepsEdges counts l places = 4 ≤ length l → AreBestEdges (length l) (stage_edge counts l 0) places
+
+-- the same of the stages of a word from `first` up to `end`
+abbrev pub AreEdgesKept : ℕ → ℕ → ℕ → List ℕ → List ℤ → List ℤ → Type 0
+AreEdgesKept m first end counts l out =
+    4 ≤ m → (t : ℕ) → first ≤ t → t < end → AreBestEdges m (inner_edge m counts l t 0) (take m (drop (t * m) out))
 
 -- the greatest score of the words with a 1 at place j less that of the words with a 0
 pub record IsSoftAt (o : Order) (counts : List ℕ) (l : List ℤ) (j : ℕ) (soft : ℤ) : Type 0 where

@@ -10,7 +10,7 @@ ghost use Rattle.hpe_lane.specs.Bounds.{IsRow, row_most};
 ghost use Rattle.hpe_lane.specs.Stages.{AreStageSoft, IsBackStep, IsStage};
 ghost use Rattle.hpe_lane.specs.Parts.{entry_most, stage_edge};
 ghost use Rattle.hpe_lane.specs.Windows.{window, windows};
-ghost use Rattle.hpe_inner.specs.Sweeps.{AreForwardRows, AreKeptRows, AreSame, AreSoft, IsBackwardRow, IsSweepable};
+ghost use Rattle.hpe_inner.specs.Sweeps.{AreEdgesKept, AreForwardRows, AreKeptRows, AreSame, AreSoft, IsBackwardRow, IsSweepable};
 
 use crate::forward::window_rows;
 use crate::word::{Between, Span, Word};
@@ -42,6 +42,7 @@ fn window_back<L: Ledger, const BITS: usize>(
         word.entry.counts.now word.entry.l.now out.new }
     ensures others { AreSame (symbol_bits word.entry.order) (span.start + span.count) word.entry.symbols
         out.old out.new }
+    ensures before { AreSame (symbol_bits word.entry.order) 0 span.start out.old out.new }
     ensures cost { steps.new ≡ steps.old + span.count }
 {
     let m = word.order.bits() as usize;
@@ -87,6 +88,7 @@ pub fn backward_sweep<L: Ledger, const BITS: usize>(
     requires out { length out.old ≡ length word.l.now }
     requires kept_long { length kept.now ≡ windows word.symbols }
     requires kept { AreKeptRows (symbol_bits word.order) word.symbols word.counts.now word.l.now kept.now }
+    requires edges { AreEdgesKept (symbol_bits word.order) 0 word.symbols word.counts.now word.l.now out.old }
     requires rows { length rows.old ≡ window }
     requires room { steps.old + 2 * word.symbols ≤ 2 ^ 60 }
     ensures soft { AreSoft word.entry.order 0 word.entry.symbols word.entry.counts.now word.entry.l.now out.new }
@@ -99,7 +101,7 @@ pub fn backward_sweep<L: Ledger, const BITS: usize>(
         let start = WINDOW * w;
         let count = WINDOW.min(word.symbols - start);
         let span = Span { start, count };
-        let _ = window_rows::<L, BITS>(word, span, kept[w], rows, steps);
+        window_rows::<L, BITS>(word, span, kept[w], rows, out, steps);
         let next = window_back::<L, BITS>(word, span, rows, [even, odd], out, steps);
         even = next[0];
         odd = next[1];

@@ -94,6 +94,6 @@ fn soft_of<L: Ledger, const BITS: usize>(
         counts,
         l,
     };
-    forward_sweep::<L, BITS>(word, kept, window, steps);
+    forward_sweep::<L, BITS>(word, kept, out, steps);
     backward_sweep::<L, BITS>(word, kept, window, out, steps);
 }

@@ -3,7 +3,8 @@ use Rattle.std.proofs.lemmas.Bool.{cases_lt}
 use Rattle.hpe_base.specs.Sizes.{number_at}
 use Rattle.hpe_inner.specs.Sweeps.{BackRow, IsSoftAt}
 use Rattle.hpe_inner.proofs.ForwardRow.{stage_is, row_fits, below_cap, inner-within, cut_is, cut_long}
-use Rattle.hpe_inner.proofs.BackwardRow.{BackRow-more, BackRow-same, back_fits, row_whole, soft_whole, soft-at, block_at, block_above, below_cap_back, stage_room}
+use Rattle.hpe_inner.proofs.KeptEdges.{block_at, block_above, block_below}
+use Rattle.hpe_inner.proofs.BackwardRow.{BackRow-more, BackRow-same, back_fits, row_whole, soft_whole, soft-at, below_cap_back, stage_room}
 use Rattle.hpe_base.specs.Parameters.{symbol_bits}
 use Rattle.hpe_inner.proofs.backward.window_back.Goals as goal
 use borrow.Rule.Slice.PartMut.{put_mid}
@@ -29,6 +30,7 @@ loop-k-init g c =
       back = BackRow-same m (e - 0) (n - e + 0) counts l back _ _ x y (subst (λ (k : ℕ). BackRow m k (n - e + 0) counts l back) (same_end e) now);
       soft = λ t i a b h. absurd {A = IsSoftAt c.args.word.order counts l (t * m + i) (number_at c.args.out.now (t * m + i))} (omega (arith, a, b));
       others = λ t i a b h. refl;
+      before = λ t i a h. refl;
       cost = omega arith;
     }
 
@@ -113,9 +115,14 @@ loop-k-preserved g c =
           (cases_lt t u);
       others = λ u i after lu li. let h : t < u = omega arith in
           block_above c.loop-k.out new t wide u m n i c.bits-m.ensures ly lx h lu li ∙ c.loop-k.invariant.others u i after lu li;
+      before = λ u i lu li. let h : u < t = omega arith in
+          block_below c.loop-k.out new t wide u m n i c.bits-m.ensures ly lx h lt li ∙ c.loop-k.invariant.before u i (omega arith) li;
       cost = omega (arith, c.stage_back-next.ensures.step, c.loop-k.invariant.cost);
     }
 
 pub stage_back-next-requires-clause-stage : goal.stage_back-next-requires-clause-stage
 stage_back-next-requires-clause-stage g c =
     stage_is c.args.word.order c.bits-m.result c.slots-size.result (c.args.span.start + (c.args.span.count - 1 - c.loop-k.k)) c.args.word.symbols c.args.word.counts.now c.args.word.l.now c.bits-m.ensures c.slots-size.ensures c.requires.word (omega arith)
+
+pub returns-clause-before : goal.returns-clause-before
+returns-clause-before g c = λ t i a b h. c.loop-k.invariant.before t i (omega arith) h

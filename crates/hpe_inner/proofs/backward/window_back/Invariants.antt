@@ -9,5 +9,6 @@ invariant-loop-k g l = record {
   back : BackRow (symbol_bits l.fn.word.order) (l.fn.span.start + l.fn.span.count - l.k) (l.fn.word.symbols - (l.fn.span.start + l.fn.span.count) + l.k) l.fn.word.counts.now l.fn.word.l.now (l.even ∷ l.odd ∷ []);
   soft : (t i : ℕ) → l.fn.span.start + l.fn.span.count ≤ t + l.k → t < l.fn.span.start + l.fn.span.count → i < symbol_bits l.fn.word.order → IsSoftAt l.fn.word.order l.fn.word.counts.now l.fn.word.l.now (t * symbol_bits l.fn.word.order + i) (number_at l.out (t * symbol_bits l.fn.word.order + i));
   others : (t i : ℕ) → l.fn.span.start + l.fn.span.count ≤ t → t < l.fn.word.symbols → i < symbol_bits l.fn.word.order → number_at l.out (t * symbol_bits l.fn.word.order + i) ≡ number_at l.initial.out (t * symbol_bits l.fn.word.order + i);
+  before : (t i : ℕ) → t + l.k < l.fn.span.start + l.fn.span.count → i < symbol_bits l.fn.word.order → number_at l.out (t * symbol_bits l.fn.word.order + i) ≡ number_at l.initial.out (t * symbol_bits l.fn.word.order + i);
   cost : l.steps ≡ l.initial.steps + l.k;
 }

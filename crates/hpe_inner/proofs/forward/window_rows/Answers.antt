@@ -3,7 +3,7 @@ use Rattle.hpe_base.specs.Sizes.{number_at}
 use Rattle.hpe_lane.proofs.WindowEnds.{rows-set}
 use Rattle.hpe_inner.specs.Sweeps.{IsForwardRow}
 use Rattle.hpe_inner.proofs.ForwardRow.{stage_is, IsForwardRow-more, IsForwardRow-same, row_fits, below_cap, stage_best, inner-within, two_or_more}
-use Rattle.hpe_inner.proofs.BackwardRow.{stage_room}
+use Rattle.hpe_inner.proofs.KeptEdges.{edges_cut}
 use Rattle.hpe_base.specs.Parameters.{symbol_bits}
 use Rattle.hpe_base.proofs.ParameterLemmas.{symbol_bits-low}
 use Rattle.hpe_inner.proofs.forward.window_rows.Goals as goal
@@ -26,11 +26,21 @@ loop-i-init g c =
       cost = omega arith;
     }
 
-pub stage_forward-next-requires-clause-row : goal.stage_forward-next-requires-clause-row
-stage_forward-next-requires-clause-row g c =
+pub next_visit-next-requires-clause-row : goal.next_visit-next-requires-clause-row
+next_visit-next-requires-clause-row g c =
     let t : ℕ = c.args.span.start + c.loop-i.i in
     let le : t ≤ c.args.word.symbols = omega arith in
     row_fits ((symbol_bits c.args.word.order + 1) * 16383) t (to_z w32 c.loop-i.even-bits ∷ to_z w32 c.loop-i.odd-bits ∷ []) (below_cap t c.args.word.symbols ((symbol_bits c.args.word.order + 1) * 16383) le c.requires.word.short) c.loop-i.invariant.now.small
+
+pub next_visit-next-requires-clause-stage : goal.next_visit-next-requires-clause-stage
+next_visit-next-requires-clause-stage g c =
+    stage_is c.args.word.order c.bits-m.result c.slots-size.result (c.args.span.start + c.loop-i.i) c.args.word.symbols c.args.word.counts.now c.args.word.l.now c.bits-m.ensures c.slots-size.ensures c.requires.word (omega arith)
+
+pub next_visit-next-requires-clause-edges : goal.next_visit-next-requires-clause-edges
+next_visit-next-requires-clause-edges g c =
+    let t : ℕ = c.args.span.start + c.loop-i.i in
+    edges_cut (symbol_bits c.args.word.order) c.bits-m.result c.args.word.symbols t c.slots-size.result c.args.word.counts.now c.args.word.l.now c.args.out.now c.bits-m.ensures c.slots-size.ensures c.requires.word.l_long (omega arith)
+    (λ many. c.requires.edges many t (omega arith) (omega arith))
 
 pub loop-i-preserved : goal.loop-i-preserved
 loop-i-preserved g c =
@@ -42,7 +52,7 @@ loop-i-preserved g c =
     let l : List ℤ = c.args.word.l.now in
     let rows : List (List ℤ) = c.loop-i.rows in
     let row : List ℤ = to_z w32 c.loop-i.even-bits ∷ to_z w32 c.loop-i.odd-bits ∷ [] in
-    let next : List ℤ = c.stage_forward-next.result in
+    let next : List ℤ = c.next_visit-next.result in
     let size : ℕ = c.slots-size.result in
     let lt : t < n = omega arith in
     let more : t + 1 ≤ n = omega arith in
@@ -52,26 +62,9 @@ loop-i-preserved g c =
     let y : to_z w32 (of_z w32 (get_or next 1 (pos 0))) ≡ number_at next 1 = search rules in
     let new : IsForwardRow m (t + 1) counts l next = IsForwardRow-more m t counts l row next (two_or_more m (symbol_bits-low c.args.word.order)) cap
     (inner-within m n t counts l c.requires.word.l_long lt c.requires.word.most c.requires.word.within) c.loop-i.invariant.now
-    (stage_best m c.bits-m.result n t size counts l row next c.bits-m.ensures c.slots-size.ensures c.requires.word.l_long lt c.stage_forward-next.ensures.row) in
+    (stage_best m c.bits-m.result n t size counts l row next c.bits-m.ensures c.slots-size.ensures c.requires.word.l_long lt c.next_visit-next.ensures.row) in
     record {
       now = IsForwardRow-same m (c.args.span.start + (i + 1)) counts l next _ _ x y (subst (λ (j : ℕ). IsForwardRow m j counts l next) (next_start c.args.span.start i) new);
       rows = rows-set (λ (j : ℕ) (here : List ℤ). IsForwardRow m (c.args.span.start + j) counts l here) i rows row room c.loop-i.invariant.rows c.loop-i.invariant.now;
-      cost = omega (arith, c.stage_forward-next.ensures.step, c.loop-i.invariant.cost);
+      cost = omega (arith, c.next_visit-next.ensures.step, c.loop-i.invariant.cost);
     }
-
-pub stage_forward-next-requires-clause-from0 : goal.stage_forward-next-requires-clause-from0
-stage_forward-next-requires-clause-from0 g c =
-    stage_room c.args.word.order c.bits-m.result c.slots-size.result (c.args.span.start + c.loop-i.i) c.args.word.symbols c.args.word.l.now c.loop-i.from0 c.bits-m.ensures c.slots-size.ensures c.requires.word.l_long (omega arith) (search rules)
-
-pub stage_forward-next-requires-clause-from1 : goal.stage_forward-next-requires-clause-from1
-stage_forward-next-requires-clause-from1 g c =
-    stage_room c.args.word.order c.bits-m.result c.slots-size.result (c.args.span.start + c.loop-i.i) c.args.word.symbols c.args.word.l.now c.loop-i.from1 c.bits-m.ensures c.slots-size.ensures c.requires.word.l_long (omega arith) (search rules)
-
-pub returns-clause-next : goal.returns-clause-next
-returns-clause-next g c =
-    let e : c.loop-i.i ≡ c.args.span.count = omega arith in
-    subst (λ (i : ℕ). IsForwardRow (symbol_bits c.args.word.order) (c.args.span.start + i) c.args.word.counts.now c.args.word.l.now (to_z w32 c.loop-i.even-bits ∷ to_z w32 c.loop-i.odd-bits ∷ [])) e c.loop-i.invariant.now
-
-pub stage_forward-next-requires-clause-stage : goal.stage_forward-next-requires-clause-stage
-stage_forward-next-requires-clause-stage g c =
-    stage_is c.args.word.order c.bits-m.result c.slots-size.result (c.args.span.start + c.loop-i.i) c.args.word.symbols c.args.word.counts.now c.args.word.l.now c.bits-m.ensures c.slots-size.ensures c.requires.word (omega arith)

@@ -1,7 +1,7 @@
 use Rattle.std.proofs.Common.{◌≡◌, ℕ, ◌^◌, ◌<◌, ◌≤◌, length, arith, subst}
 use Rattle.hpe_base.specs.Sizes.{number_at}
 use Rattle.hpe_inner.proofs.ForwardRow.{two_or_more, edges_within, stage_top}
-use Rattle.hpe_inner.proofs.forward.stage_forward.Goals as goal
+use Rattle.hpe_inner.proofs.forward.step_with.Goals as goal
 
 pub step_forward-requires-clause-some : goal.step_forward-requires-clause-some
 step_forward-requires-clause-some g c =

@@ -1,0 +1,8 @@
+use Rattle.hpe_lane.specs.Parts.{stage_edge}
+use Rattle.std.proofs.Common.{arith, length}
+use Rattle.hpe_inner.proofs.KeptEdges.{edges_by_place}
+use Rattle.hpe_inner.proofs.forward.next_visit.Goals as goal
+
+pub step_by_best-requires-clause-best : goal.step_by_best-requires-clause-best
+step_by_best-requires-clause-best g c =
+    edges_by_place (length c.args.stage.l.now) (stage_edge c.args.stage.counts.now c.args.stage.l.now 0) c.args.places.now c.kept_edges.result c.kept_edges.ensures (c.requires.edges (omega arith))
