@@ -211,3 +211,10 @@ stage_top counts l from0 from1 row n size b z es zero_is one_is g =
     λ e h. ap (λ (y : ℤ). number_at row e.0 +ℤ y) (edge_is counts l from0 from1 n zero_is one_is e.0 e.1 h.0 h.1) in
     subst (λ (k : ℕ). IsGreatest (λ (e : ℕ × ℕ). IsEdge k 2 e × (e.1 % 2 ≡ b)) (λ e. number_at row e.0 +ℤ stage_edge counts l e.0 e.1) z) es
     (IsGreatest-carry (λ e h. (e, (h, sym (same e h.0)))) (λ e h. (e, (h, same e h.0))) g)
+
+-- ---- memory for the edges of a stage of few bits
+pub eight_at_most : (m n : ℕ) → m ≤ 3 → n ≡ 2 ^ m → n ≤ 8
+eight_at_most m n h e = let p : 2 ^ m ≤ 2 ^ 3 = pow_mono {i = m} {j = 3} h in omega arith
+
+pub as_many : (m n : ℕ) (xs : List ℤ) → m ≤ 3 → n ≡ 2 ^ m → length xs ≡ 8 → length (take n xs) ≡ n
+as_many m n xs h e l = let a : n ≤ 8 = eight_at_most m n h e in simp length-take (omega arith)

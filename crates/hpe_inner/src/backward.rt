@@ -10,12 +10,12 @@ ghost use Rattle.hpe_lane.specs.Bounds.{IsRow, row_most};
 ghost use Rattle.hpe_lane.specs.Stages.{AreStageSoft, IsBackStep, IsStage};
 ghost use Rattle.hpe_lane.specs.Parts.{entry_most, stage_edge};
 ghost use Rattle.hpe_lane.specs.Windows.{window, windows};
-ghost use Rattle.hpe_inner.specs.Sweeps.{AreEdgesKept, AreForwardRows, AreKeptRows, AreSame, AreSoft, IsBackwardRow, IsSweepable};
+ghost use Rattle.hpe_inner.specs.Sweeps.{AreEdgesKept, AreForwardRows, AreKeptRows, AreSame, AreSoft, IsBackwardRow, IsSweepable, KeepsEdges};
 
-use crate::forward::window_rows;
-use crate::word::{Between, Span, Word};
+use crate::forward::{KEPT_FROM, kept_edges, window_rows};
+use crate::word::{Span, Word};
 use hpe_base::Steps;
-use hpe_lane::{Stage, WINDOW, edge_scores, step_back};
+use hpe_lane::{Between, Stage, WINDOW, edge_scores, step_back, step_back_by_best};
 use std::sync::ledger::Ledger;
 
 /// Writes the soft values of a window, from its last stage to its first, by the rows before its stages and the row
@@ -33,6 +33,8 @@ fn window_back<L: Ledger, const BITS: usize>(
     requires out { length out.old ≡ length word.l.now }
     requires rows_long { span.count ≤ length rows.now }
     requires rows { AreForwardRows (symbol_bits word.order) span.start span.count word.counts.now word.l.now rows.now }
+    requires edges { AreEdgesKept (symbol_bits word.order) span.start (span.start + span.count)
+        word.counts.now word.l.now out.old }
     requires later { IsBackwardRow (symbol_bits word.order) (span.start + span.count) word.symbols
         word.counts.now word.l.now back }
     requires room { steps.old + span.count ≤ 2 ^ 60 }
@@ -47,8 +49,7 @@ fn window_back<L: Ledger, const BITS: usize>(
 {
     let m = word.order.bits() as usize;
     let size = word.order.slots();
-    let mut from0 = [0; 256];
-    let mut from1 = [0; 256];
+    let mut joint = [0; 256];
     let mut even = back[0];
     let mut odd = back[1];
     for k in 0..span.count {
@@ -65,9 +66,8 @@ fn window_back<L: Ledger, const BITS: usize>(
         let next = stage_back::<L, BITS>(
             stage,
             between,
+            &mut joint[..size],
             &mut out[t * m..(t + 1) * m],
-            &mut from0[..size],
-            &mut from1[..size],
             steps,
         );
         even = next[0];
@@ -108,22 +108,85 @@ pub fn backward_sweep<L: Ledger, const BITS: usize>(
     }
 }
 
-/// The row before a stage, from the row after it, and the soft values of the stage's input bits.
+/// The row before a stage, from the row after it, and the soft values of the stage's input bits, which take the place of its
+/// best edges where these are kept. `joint` is memory for as many scores as there are symbols.
 #[inline(always)]
 fn stage_back<L: Ledger, const BITS: usize>(
     stage: Stage,
     between: Between,
+    joint: &mut [i32],
     out: &mut [i32],
-    from0: &mut [i32],
-    from1: &mut [i32],
     steps: &mut Steps<L>,
 ) -> [i32; 2]
     requires stage { IsStage stage.counts.now stage.l.now }
+    requires fore { IsRow 2 entry_most between.fore }
+    requires back { IsRow 2 row_most between.back }
+    requires joint { length joint.old ≡ 2 ^ length stage.l.now }
     requires out { length out.old ≡ length stage.l.now }
+    requires edges { KeepsEdges stage.counts.now stage.l.now out.old }
+    requires room { steps.old < 2 ^ 60 }
+    ensures row { IsBackStep (2 ^ length stage.entry.l.now)
+        (stage_edge stage.entry.counts.now stage.entry.l.now) between.back result }
+    ensures soft { AreStageSoft (length stage.entry.l.now) (2 ^ length stage.entry.l.now)
+        (stage_edge stage.entry.counts.now stage.entry.l.now) between.fore between.back out.new }
+    ensures step { steps.new ≡ steps.old + 1 }
+{
+    if stage.l.len() < KEPT_FROM {
+        return back_by_lists::<L, BITS>(stage, between, out, steps);
+    }
+    let best = kept_edges(out);
+    step_back_by_best::<L, BITS>(stage, best, between, joint, out, steps)
+}
+
+/// The same for a stage of few bits, by a list of the edges of each state.
+#[inline(always)]
+fn back_by_lists<L: Ledger, const BITS: usize>(
+    stage: Stage,
+    between: Between,
+    out: &mut [i32],
+    steps: &mut Steps<L>,
+) -> [i32; 2]
+    requires stage { IsStage stage.counts.now stage.l.now }
+    requires few { length stage.l.now ≤ 3 }
+    requires fore { IsRow 2 entry_most between.fore }
+    requires back { IsRow 2 row_most between.back }
+    requires out { length out.old ≡ length stage.l.now }
+    requires room { steps.old < 2 ^ 60 }
+    ensures row { IsBackStep (2 ^ length stage.entry.l.now)
+        (stage_edge stage.entry.counts.now stage.entry.l.now) between.back result }
+    ensures soft { AreStageSoft (length stage.entry.l.now) (2 ^ length stage.entry.l.now)
+        (stage_edge stage.entry.counts.now stage.entry.l.now) between.fore between.back out.new }
+    ensures step { steps.new ≡ steps.old + 1 }
+{
+    let size = stage.counts.len();
+    let mut from0 = [0; 8];
+    let mut from1 = [0; 8];
+    back_with::<L, BITS>(
+        stage,
+        between,
+        &mut from0[..size],
+        &mut from1[..size],
+        out,
+        steps,
+    )
+}
+
+/// The same, with memory for the lists.
+#[inline(always)]
+fn back_with<L: Ledger, const BITS: usize>(
+    stage: Stage,
+    between: Between,
+    from0: &mut [i32],
+    from1: &mut [i32],
+    out: &mut [i32],
+    steps: &mut Steps<L>,
+) -> [i32; 2]
+    requires stage { IsStage stage.counts.now stage.l.now }
     requires fore { IsRow 2 entry_most between.fore }
     requires back { IsRow 2 row_most between.back }
     requires from0 { length from0.old ≡ 2 ^ length stage.l.now }
     requires from1 { length from1.old ≡ 2 ^ length stage.l.now }
+    requires out { length out.old ≡ length stage.l.now }
     requires room { steps.old < 2 ^ 60 }
     ensures row { IsBackStep (2 ^ length stage.entry.l.now)
         (stage_edge stage.entry.counts.now stage.entry.l.now) between.back result }

@@ -56,12 +56,7 @@ pub fn forward_sweep<L: Ledger, const BITS: usize>(
             counts: &word.counts[t * size..(t + 1) * size],
             l: &word.l[t * m..(t + 1) * m],
         };
-        let next = first_visit::<L, BITS>(
-            stage,
-            [even, odd],
-            &mut out[t * m..(t + 1) * m],
-            steps,
-        );
+        let next = first_visit::<L, BITS>(stage, [even, odd], &mut out[t * m..(t + 1) * m], steps);
         even = next[0];
         odd = next[1];
     }

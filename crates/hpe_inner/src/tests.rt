@@ -129,6 +129,9 @@ fn all_words(rt: HostRuntime) -> Result<(), Fail> {
         (Order::P4, 4),
         (Order::P8, 1),
         (Order::P8, 2),
+        (Order::P16, 1),
+        (Order::P16, 2),
+        (Order::P256, 1),
     ] {
         let mut counts = vec![in rt.alloc(); 0; symbols * order.slots()]?;
         for (i, count) in counts.iter_mut().enumerate() {

@@ -1,4 +1,4 @@
-//! What the sweeps run over: a word, a window of its stages, and the rows on the two sides of a stage.
+//! What the sweeps run over: a word, and a window of its stages.
 //!
 //! They go together from the sweeps down to a stage, so each is a struct that is passed as one. The compiler takes them
 //! apart again where a sweep stands in one piece.
@@ -22,11 +22,4 @@ pub struct Word<'a> {
 pub struct Span {
     pub start: usize,
     pub count: usize,
-}
-
-/// The rows that a stage stands between: what each state scores before it, and what from its end on.
-#[derive(Clone, Copy)]
-pub struct Between {
-    pub fore: [i32; 2],
-    pub back: [i32; 2],
 }

@@ -70,3 +70,11 @@ window_rows-requires-clause-edges g c =
     let lw : w < windows n = omega arith in
     let e : windows_end n (length c.args.kept.now - c.loop-k.k) ≡ 64 * w + c.min-count.result = omega (arith, c.min-count.ensures) in
     edges_within (symbol_bits c.args.word.order) 0 (windows_end n (length c.args.kept.now - c.loop-k.k)) (64 * w) (64 * w + c.min-count.result) c.args.word.counts.now c.args.word.l.now c.loop-k.out (omega arith) (omega arith) c.loop-k.invariant.edges
+
+pub window_back-next-requires-clause-edges : goal.window_back-next-requires-clause-edges
+window_back-next-requires-clause-edges g c =
+    let n : ℕ = c.args.word.symbols in
+    let w : ℕ = length c.args.kept.now - 1 - c.loop-k.k in
+    let lw : w < windows n = omega arith in
+    let e : windows_end n (length c.args.kept.now - c.loop-k.k) ≡ 64 * w + c.min-count.result = omega (arith, c.min-count.ensures) in
+    edges_within (symbol_bits c.args.word.order) 0 (windows_end n (length c.args.kept.now - c.loop-k.k)) (64 * w) (64 * w + c.min-count.result) c.args.word.counts.now c.args.word.l.now c.loop-k.out (omega arith) (omega arith) c.loop-k.invariant.edges

@@ -3,7 +3,7 @@ use Rattle.std.proofs.lemmas.Bool.{cases_lt}
 use Rattle.hpe_base.specs.Sizes.{number_at}
 use Rattle.hpe_inner.specs.Sweeps.{BackRow, IsSoftAt}
 use Rattle.hpe_inner.proofs.ForwardRow.{stage_is, row_fits, below_cap, inner-within, cut_is, cut_long}
-use Rattle.hpe_inner.proofs.KeptEdges.{block_at, block_above, block_below}
+use Rattle.hpe_inner.proofs.KeptEdges.{block_at, block_above, block_below, edges_cut, edges_same, edges_within}
 use Rattle.hpe_inner.proofs.BackwardRow.{BackRow-more, BackRow-same, back_fits, row_whole, soft_whole, soft-at, below_cap_back, stage_room}
 use Rattle.hpe_base.specs.Parameters.{symbol_bits}
 use Rattle.hpe_inner.proofs.backward.window_back.Goals as goal
@@ -52,13 +52,21 @@ stage_back-next-requires-clause-back g c =
     back_fits (symbol_bits c.args.word.order) (e - k) (n - e + k) n ((symbol_bits c.args.word.order + 1) * 16383) c.args.word.counts.now c.args.word.l.now (to_z w32 c.loop-k.even-bits ∷ to_z w32 c.loop-k.odd-bits ∷ []) all
     (λ s p v h. inner-within (symbol_bits c.args.word.order) n s c.args.word.counts.now c.args.word.l.now c.requires.word.l_long h c.requires.word.most c.requires.word.within p v) cap c.loop-k.invariant.back
 
-pub stage_back-next-requires-clause-from0 : goal.stage_back-next-requires-clause-from0
-stage_back-next-requires-clause-from0 g c =
-    stage_room c.args.word.order c.bits-m.result c.slots-size.result (c.args.span.start + (c.args.span.count - 1 - c.loop-k.k)) c.args.word.symbols c.args.word.l.now c.loop-k.from0 c.bits-m.ensures c.slots-size.ensures c.requires.word.l_long (omega arith) (search rules)
+pub stage_back-next-requires-clause-joint : goal.stage_back-next-requires-clause-joint
+stage_back-next-requires-clause-joint g c =
+    stage_room c.args.word.order c.bits-m.result c.slots-size.result (c.args.span.start + (c.args.span.count - 1 - c.loop-k.k)) c.args.word.symbols c.args.word.l.now c.loop-k.joint c.bits-m.ensures c.slots-size.ensures c.requires.word.l_long (omega arith) (search rules)
 
-pub stage_back-next-requires-clause-from1 : goal.stage_back-next-requires-clause-from1
-stage_back-next-requires-clause-from1 g c =
-    stage_room c.args.word.order c.bits-m.result c.slots-size.result (c.args.span.start + (c.args.span.count - 1 - c.loop-k.k)) c.args.word.symbols c.args.word.l.now c.loop-k.from1 c.bits-m.ensures c.slots-size.ensures c.requires.word.l_long (omega arith) (search rules)
+pub stage_back-next-requires-clause-edges : goal.stage_back-next-requires-clause-edges
+stage_back-next-requires-clause-edges g c =
+    let m : ℕ = symbol_bits c.args.word.order in
+    let t : ℕ = c.args.span.start + (c.args.span.count - 1 - c.loop-k.k) in
+    let counts : List ℕ = c.args.word.counts.now in
+    let l : List ℤ = c.args.word.l.now in
+    edges_cut m c.bits-m.result c.args.word.symbols t c.slots-size.result counts l c.loop-k.out c.bits-m.ensures c.slots-size.ensures c.requires.word.l_long (omega arith)
+    (λ many. edges_same m t (t + 1) counts l c.args.out.now c.loop-k.out
+    (λ u i a b li. c.loop-k.invariant.before u i (omega (arith, b)) li)
+    (edges_within m c.args.span.start (c.args.span.start + c.args.span.count) t (t + 1) counts l c.args.out.now (omega arith) (omega arith) c.requires.edges)
+    many t (omega arith) (omega arith))
 
 pub returns-clause-row : goal.returns-clause-row
 returns-clause-row g c =

@@ -1,4 +1,4 @@
-use Rattle.std.proofs.Common.{◌≡◌, ℕ, ◌<◌, ◌∙◌, ◌++◌, ap, arith, rules, ℤ, List, length, drop}
+use Rattle.std.proofs.Common.{◌≡◌, ℕ, ◌<◌, ◌∙◌, ◌++◌, ap, rules, ℤ, List, length, drop}
 use Rattle.std.proofs.lemmas.List.{places}
 use Rattle.hpe_base.specs.Sizes.{number_at}
 use Rattle.hpe_lane.specs.Parts.{stage_edge}

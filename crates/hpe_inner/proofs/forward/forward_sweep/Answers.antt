@@ -1,4 +1,4 @@
-use Rattle.std.proofs.Common.{◌≡◌, ℕ, ◌+◌, ◌*◌, ◌/◌, ◌%◌, ◌<◌, ◌≤◌, get_or, [], ◌∷◌, length, arith, rules, ℤ, List, pos, negsuc, ap, sym, ◌∙◌, subst, to_z, of_z, w32}
+use Rattle.std.proofs.Common.{◌≡◌, ℕ, ◌+◌, ◌*◌, ◌/◌, ◌%◌, ◌<◌, ◌≤◌, get_or, [], ◌∷◌, length, arith, rules, ℤ, List, pos, ap, sym, ◌∙◌, subst, to_z, of_z, w32}
 use Rattle.hpe_base.specs.Parameters.{symbol_bits}
 use Rattle.hpe_base.specs.Sizes.{number_at}
 use Rattle.hpe_base.proofs.ParameterLemmas.{symbol_bits-low}
@@ -51,16 +51,16 @@ loop-t-preserved g c =
     record {
       now = IsForwardRow-same m (t + 1) counts l next _ _ x y new;
       kept = elim c.if-t-eq0.branch [
-        then-t-eq0 b ↦ λ w h.
-          let room : t / 64 < length kept = omega arith in
-          let start : t ≡ 64 * (t / 64) = window_of t (omega (arith, b.if-t-eq0)) in
-          subst (λ (ks : List (List ℤ)). IsForwardRow m (64 * w) counts l (get_or ks w [])) (sym b.kept-is)
-          (rows-set (λ (j : ℕ) (here : List ℤ). IsForwardRow m (64 * j) counts l here) (t / 64) kept row room
-          (λ j lj. c.loop-t.invariant.kept j (omega (arith, lj)))
-          (subst (λ (j : ℕ). IsForwardRow m j counts l row) start c.loop-t.invariant.now) w (omega (arith, h)))
+        | then-t-eq0 b ↦ λ w h.
+            let room : t / 64 < length kept = omega arith in
+            let start : t ≡ 64 * (t / 64) = window_of t (omega (arith, b.if-t-eq0)) in
+            subst (λ (ks : List (List ℤ)). IsForwardRow m (64 * w) counts l (get_or ks w [])) (sym b.kept-is)
+            (rows-set (λ (j : ℕ) (here : List ℤ). IsForwardRow m (64 * j) counts l here) (t / 64) kept row room
+            (λ j lj. c.loop-t.invariant.kept j (omega (arith, lj)))
+            (subst (λ (j : ℕ). IsForwardRow m j counts l row) start c.loop-t.invariant.now) w (omega (arith, h)))
         | else-t-eq0 b ↦ λ w h.
-          subst (λ (ks : List (List ℤ)). IsForwardRow m (64 * w) counts l (get_or ks w [])) (sym b.kept-is)
-          (c.loop-t.invariant.kept w (omega (arith, h, b.if-t-eq0)))
+            subst (λ (ks : List (List ℤ)). IsForwardRow m (64 * w) counts l (get_or ks w [])) (sym b.kept-is)
+            (c.loop-t.invariant.kept w (omega (arith, h, b.if-t-eq0)))
       ];
       edges = edges_more m wide n t counts l out places c.bits-m.ensures ly lx lt
           (edges_whole m wide n t size counts l places c.bits-m.ensures c.slots-size.ensures c.requires.word.l_long lt c.first_visit-next.ensures.edges)

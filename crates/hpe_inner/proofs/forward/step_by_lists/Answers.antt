@@ -1,13 +1,6 @@
-use Rattle.std.proofs.Common.{◌≡◌, ℕ, ◌^◌, ◌≤◌, sym, ◌∙◌, arith, length, take, ℤ, List, refl}
-use Rattle.std.proofs.lemmas.List.{length-take}
-use Rattle.std.proofs.Math.Pow.{pow_mono}
+use Rattle.std.proofs.Common.{sym, ◌∙◌, length, refl}
+use Rattle.hpe_inner.proofs.ForwardRow.{eight_at_most, as_many}
 use Rattle.hpe_inner.proofs.forward.step_by_lists.Goals as goal
-
-eight_at_most : (m n : ℕ) → m ≤ 3 → n ≡ 2 ^ m → n ≤ 8
-eight_at_most m n h e = let p : 2 ^ m ≤ 2 ^ 3 = pow_mono {i = m} {j = 3} h in omega arith
-
-as_many : (m n : ℕ) (xs : List ℤ) → m ≤ 3 → n ≡ 2 ^ m → length xs ≡ 8 → length (take n xs) ≡ n
-as_many m n xs h e l = let a : n ≤ 8 = eight_at_most m n h e in simp length-take (omega arith)
 
 pub slice_bounds-from0-end : goal.slice_bounds-from0-end
 slice_bounds-from0-end g c = eight_at_most (length c.args.stage.l.now) (length c.args.stage.counts.now) c.requires.few c.requires.stage.long
