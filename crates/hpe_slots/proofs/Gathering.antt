@@ -22,12 +22,15 @@ pub record Gathering (size : ℕ) (counts : List ℕ) (n start : ℕ) (sums : Li
   pub next : start ≡ n * size
   pub value : (v : ℕ) → v < length sums → get_or sums v 0 ≡ min clamp (sum (tabulate n (count_at size counts v)))
 
--- before the first sending
-pub Gathering-none : (size : ℕ) (counts sums : List ℕ) → ((v : ℕ) → v < length sums → get_or sums v 0 ≡ 0) → Gathering size counts 0 0 sums
-Gathering-none size counts sums zero = record {
+-- after the first sending
+pub Gathering-first : (size : ℕ) (counts sums : List ℕ) → ((v : ℕ) → v < length sums → get_or sums v 0 ≡ min clamp (get_or counts v 0)) → Gathering size counts 1 size sums
+Gathering-first size counts sums cut = record {
   next = omega arith;
-  value = λ v b. zero v b ∙ sym (ap (min clamp) (sum-tabulate-none (count_at size counts v)));
+  value = λ v b. cut v b ∙ sym (ap (min clamp) (one v));
 }
+  where
+    one : (v : ℕ) → sum (tabulate 1 (count_at size counts v)) ≡ get_or counts v 0
+    one v = let none = sum-tabulate-none (count_at size counts v) in let more = sum-tabulate-more 0 (count_at size counts v) in let at : 0 + 0 * size + v ≡ v = omega arith in let same : count_at size counts v 0 ≡ get_or counts v 0 = ap (λ (k : ℕ). get_or counts k 0) at in omega (arith, none, more, same)
 
 -- a sum that was cut before it grew is cut to the same
 cut_twice : (a b : ℕ) → min clamp (min clamp a + b) ≡ min clamp (a + b)

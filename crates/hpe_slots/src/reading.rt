@@ -34,6 +34,16 @@ pub fn read_counts(p: &Profile, octets: &[u8], counts: &mut [u16])
     }
 }
 
+/// Makes sums of the counts of one sending, position by position. One that passes 16,383 is cut there.
+fn cut_counts(counts: &[u16], sums: &mut [u16])
+    requires size { length counts.now ≡ length sums.old }
+    ensures { (v : ℕ) → v < length sums.old → slice_index sums.new v ≡ min clamp (slice_index counts.now v) }
+{
+    for (v, sum) in sums.iter_mut().enumerate() {
+        *sum = counts[v].min(CLAMP);
+    }
+}
+
 /// Adds the counts of one sending to the sums, position by position. A sum that passes 16,383 is cut there.
 fn add_counts(counts: &[u16], sums: &mut [u16])
     requires size { length counts.now ≡ length sums.old }
@@ -60,9 +70,9 @@ pub fn gather(p: &Profile, slots: &[u16], into: &mut [u16])
 {
     let size = p.order().sending_slots();
     let positions = p.order().slots();
-    into.fill(0);
-    let mut start = 0;
-    for _ in 0..p.repeat() {
+    cut_counts(&slots[..positions], into);
+    let mut start = size;
+    for _ in 1..p.repeat() {
         add_counts(&slots[start..start + positions], into);
         start += size;
     }
