@@ -3,7 +3,8 @@ ghost use Rattle.std.specs.Prelude.{◌≡◌, ◌≤◌, ◌+◌, ◌*◌, leng
 use crate::{FrameFeed, FrameScan};
 use hpe_base::{Fields, Profile};
 use hpe_io::{Failed, MemSink};
-use std::alloc::AllocError;
+use std::alloc::{AllocError, AllocGlobal};
+use std::process::Abort;
 use std::test::Fail;
 
 /// The frame marker of the built-in profile, 1ACFFC1D.
@@ -87,15 +88,41 @@ fn frames_of_one_octet(rt: HostRuntime) -> Result<(), Fail> {
 /// The bits of a block at the built-in profile.
 const BLOCK_BITS: usize = 5_006;
 
+/// The bits of the block of that number.
+fn block_of(bits: &[u8], number: usize) -> &[u8]
+    requires { (number + 1) * 5006 ≤ length bits.now }
+    ensures { length result.now ≡ 5006 }
+{
+    let first = number * BLOCK_BITS;
+    &bits[first..first + BLOCK_BITS]
+}
+
+/// Scans the blocks of these bits, of which those that are not known are lost, and compares how many frames each gives.
+fn scan_blocks<T: Abort + AllocGlobal>(
+    rt: &T,
+    bits: &[u8],
+    blocks: &[(bool, u32)],
+    sink: &mut MemSink,
+) -> Result<(), Fail> {
+    let mut scan = FrameScan::new(rt.alloc(), &Profile::basic())?;
+    for (number, (known, frames)) in blocks.iter().enumerate() {
+        assert!(rt; number < 10 && (number + 1) * BLOCK_BITS <= bits.len());
+        let block = if *known {
+            Some(block_of(bits, number))
+        } else {
+            None
+        };
+        assert_eq!(rt; scan.block(block, sink), Ok(*frames));
+    }
+    Ok(())
+}
+
 #[test]
 fn no_frame(rt: HostRuntime) -> Result<(), Fail> {
-    let mut scan = FrameScan::new(rt.alloc(), &Profile::basic())?;
     let mut sink = MemSink::new(rt.alloc(), 1_000, &[])?;
-    let zeros = [0; BLOCK_BITS];
-    assert_eq!(rt; scan.block(Some(&zeros), &mut sink), Ok(0));
-    assert_eq!(rt; scan.block(None, &mut sink), Ok(0));
-    assert_eq!(rt; scan.frames(), 0);
-    assert_eq!(rt; sink.bytes().len(), 0);
+    let zeros = [0; 2 * BLOCK_BITS];
+    scan_blocks(&rt, &zeros, &[(true, 0), (false, 0)], &mut sink)?;
+    assert!(rt; sink.bytes().is_empty());
     Ok(())
 }
 
@@ -139,15 +166,6 @@ fn append_frame(bits: &mut Vec<u8>, octets: &[u8; 100]) -> Result<(), AllocError
     Ok(())
 }
 
-/// The bits of the block of that number.
-fn block_of(bits: &[u8], number: usize) -> &[u8]
-    requires { (number + 1) * 5006 ≤ length bits.now }
-    ensures { length result.now ≡ 5006 }
-{
-    let first = number * BLOCK_BITS;
-    &bits[first..first + BLOCK_BITS]
-}
-
 #[test]
 fn frames_around_a_lost_block(rt: HostRuntime) -> Result<(), Fail> {
     // thirty frames, each of octets that are its number, fill five blocks but for 70 bits
@@ -157,14 +175,9 @@ fn frames_around_a_lost_block(rt: HostRuntime) -> Result<(), Fail> {
     }
     assert_eq!(rt; bits.len(), 24_960);
     bits.resize(5 * BLOCK_BITS, 0)?;
-    let mut scan = FrameScan::new(rt.alloc(), &Profile::basic())?;
     let mut sink = MemSink::new(rt.alloc(), 10_000, &[])?;
-    assert_eq!(rt; scan.block(Some(block_of(&bits, 0)), &mut sink), Ok(6));
-    assert_eq!(rt; scan.block(Some(block_of(&bits, 1)), &mut sink), Ok(6));
-    assert_eq!(rt; scan.block(None, &mut sink), Ok(0));
-    assert_eq!(rt; scan.block(Some(block_of(&bits, 3)), &mut sink), Ok(5));
-    assert_eq!(rt; scan.block(Some(block_of(&bits, 4)), &mut sink), Ok(6));
-    assert_eq!(rt; scan.frames(), 23);
+    let blocks = [(true, 6), (true, 6), (false, 0), (true, 5), (true, 6)];
+    scan_blocks(&rt, &bits, &blocks, &mut sink)?;
     assert_eq!(rt; sink.bytes().len(), 2_300);
     // the lost block has bits of frames 12 to 18
     for (octets, number) in sink.bytes().chunks_exact(100).zip((0..12).chain(19..30)) {
@@ -189,12 +202,9 @@ fn marker_inside_of_a_frame(rt: HostRuntime) -> Result<(), Fail> {
     }
     assert_eq!(rt; bits.len(), 14_976);
     bits.resize(3 * BLOCK_BITS, 0)?;
-    let mut scan = FrameScan::new(rt.alloc(), &Profile::basic())?;
     let mut sink = MemSink::new(rt.alloc(), 10_000, &[])?;
-    assert_eq!(rt; scan.block(Some(block_of(&bits, 0)), &mut sink), Ok(6));
-    assert_eq!(rt; scan.block(None, &mut sink), Ok(0));
     // frame 12 begins in the lost block; what stands from the marker among its octets on is no frame
-    assert_eq!(rt; scan.block(Some(block_of(&bits, 2)), &mut sink), Ok(5));
+    scan_blocks(&rt, &bits, &[(true, 6), (false, 0), (true, 5)], &mut sink)?;
     assert_eq!(rt; sink.bytes().len(), 1_100);
     for octets in sink.bytes().chunks_exact(100) {
         assert_eq!(rt; octets, decoy().as_slice());
