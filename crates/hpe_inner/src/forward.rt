@@ -13,7 +13,7 @@ ghost use Rattle.hpe_base.specs.Sizes.{number_at};
 ghost use Rattle.hpe_lane.specs.Bounds.{IsRow};
 ghost use Rattle.hpe_lane.specs.Parts.{entry_most, stage_edge};
 ghost use Rattle.hpe_lane.specs.Stages.{IsForwardStep, IsStage};
-ghost use Rattle.hpe_lane.specs.Windows.{window, windows};
+ghost use Rattle.hpe_lane.specs.Windows.{windows};
 ghost use Rattle.hpe_inner.specs.Sweeps.{AreEdgesKept, AreForwardRows, AreKeptRows, IsForwardRow, IsSweepable, KeepsEdges};
 
 use crate::word::{Span, Word};
@@ -56,7 +56,7 @@ pub fn forward_sweep<L: Ledger, const BITS: usize>(
             counts: &word.counts[t * size..(t + 1) * size],
             l: &word.l[t * m..(t + 1) * m],
         };
-        let next = first_visit::<L, BITS>(stage, [even, odd], &mut out[t * m..(t + 1) * m], steps);
+        let next = first_visit(stage, [even, odd], &mut out[t * m..(t + 1) * m], steps);
         even = next[0];
         odd = next[1];
     }
@@ -95,7 +95,7 @@ pub fn window_rows<L: Ledger, const BITS: usize>(
             counts: &word.counts[t * size..(t + 1) * size],
             l: &word.l[t * m..(t + 1) * m],
         };
-        let next = next_visit::<L, BITS>(stage, [even, odd], &out[t * m..(t + 1) * m], steps);
+        let next = next_visit(stage, [even, odd], &out[t * m..(t + 1) * m], steps);
         even = next[0];
         odd = next[1];
     }
@@ -103,7 +103,7 @@ pub fn window_rows<L: Ledger, const BITS: usize>(
 
 /// The row after a stage, from the row before it. The stage's best edges are left in its places, where it has room for them.
 #[inline(always)]
-fn first_visit<L: Ledger, const BITS: usize>(
+fn first_visit<L: Ledger>(
     stage: Stage,
     row: [i32; 2],
     places: &mut [i32],
@@ -128,7 +128,7 @@ fn first_visit<L: Ledger, const BITS: usize>(
 
 /// The same, by the best edges that the first visit left.
 #[inline(always)]
-fn next_visit<L: Ledger, const BITS: usize>(
+fn next_visit<L: Ledger>(
     stage: Stage,
     row: [i32; 2],
     places: &[i32],
