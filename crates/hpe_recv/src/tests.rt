@@ -2,8 +2,9 @@ ghost use Rattle.std.specs.Prelude.{◌<◌, ◌≤◌, ◌^◌};
 
 use crate::{OpenGate, Receiver, RecvFault, Tally, held_limit};
 use hpe_base::{Fields, Profile};
-use hpe_io::{MemSink, MemSource, SureSource};
-use std::alloc::Global;
+use hpe_io::{MemSink, MemSource};
+use std::alloc::AllocGlobal;
+use std::process::Abort;
 use std::test::Fail;
 use std::thread::Threads;
 
@@ -20,40 +21,75 @@ const NO_WORD: Tally = Tally {
     tail: 0,
 };
 
-/// What was received of octets that come in pieces of one size.
+/// How octets are received.
+#[derive(Clone, Copy)]
+struct Reads<'a> {
+    workers: u32,
+    /// The most octets of a take.
+    piece: u32,
+    /// The numbers of the takes that fail.
+    failing: &'a [u64],
+    limit: u64,
+}
+
+/// One word at a time, in large pieces.
+const LARGE: Reads<'static> = Reads {
+    workers: 1,
+    piece: 65_536,
+    failing: &[],
+    limit: LIMIT,
+};
+
+/// What a receiver answered, the report, and what it keeps then.
 #[derive(Drop)]
 struct Received {
     ended: Result<Tally, RecvFault>,
-    frames: MemSink,
     report: MemSink,
+    fresh: bool,
     held: u64,
 }
 
-/// Receives the octets of counts.
-fn receive<T: Threads + Sync>(
+/// Receives octets of which no frame comes.
+fn receive<T: AllocGlobal + Threads + Sync>(
     rt: &T,
-    alloc: Global,
     p: &Profile,
-    workers: u32,
+    reads: Reads,
     octets: &[u8],
-    piece: u32,
-    limit: u64,
 ) -> Result<Received, Fail>
-    requires workers { (1 ≤ workers) × (workers ≤ 16) }
-    requires piece { 0 < piece }
-    requires limit { (1 ≤ limit) × (limit ≤ 2 ^ 40) }
+    requires workers { (1 ≤ reads.workers) × (reads.workers ≤ 16) }
+    requires piece { 0 < reads.piece }
+    requires limit { (1 ≤ reads.limit) × (reads.limit ≤ 2 ^ 40) }
 {
-    let mut input = SureSource::new(alloc, octets, &[piece])?;
-    let mut receiver = Receiver::new(alloc, p, workers)?;
-    let mut frames = MemSink::new(alloc, 1_000, &[])?;
-    let mut report = MemSink::new(alloc, 1_000, &[])?;
+    let mut input = MemSource::new(rt.alloc(), octets, &[reads.piece], reads.failing)?;
+    let mut receiver = Receiver::new(rt.alloc(), p, reads.workers)?;
+    let mut frames = MemSink::new(rt.alloc(), 0, &[])?;
+    let mut report = MemSink::new(rt.alloc(), 1_000, &[])?;
+    let limit = reads.limit;
     let ended = receiver.receive(rt, &OpenGate, limit, &mut input, &mut frames, &mut report);
     Ok(Received {
         ended,
-        frames,
         report,
+        fresh: receiver.fresh(),
         held: receiver.held(),
     })
+}
+
+/// Receives octets of which no frame comes, and compares the answer and the report. It answers what is kept then.
+fn receives<T: Abort + AllocGlobal + Threads + Sync>(
+    rt: &T,
+    p: &Profile,
+    reads: Reads,
+    octets: &[u8],
+    ended: Result<Tally, RecvFault>,
+    report: &str,
+) -> Result<u64, Fail> {
+    assert!(rt; 1 <= reads.workers && reads.workers <= 16);
+    assert!(rt; 0 < reads.piece && 1 <= reads.limit && reads.limit <= LIMIT);
+    let received = receive(rt, p, reads, octets)?;
+    assert_eq!(rt; received.ended, ended);
+    assert_eq!(rt; received.report.bytes(), report.as_bytes());
+    assert!(rt; !received.fresh && received.held <= held_limit(p, reads.workers));
+    Ok(received.held)
 }
 
 /// A profile of order 4, with a period of 37,880 slots for each time that a symbol is sent.
@@ -73,17 +109,14 @@ fn order_4(repeat: i64, rounds: i64, count_octets: i64) -> Result<Profile, Fail>
 fn all_counts_at_their_greatest(rt: HostRuntime) -> Result<(), Fail> {
     let p = order_4(32, 16, 1)?;
     let counts = vec![in rt.alloc(); 255u8; 1_212_160]?;
-    let received = receive(&rt, rt.alloc(), &p, 1, &counts, 65_536, LIMIT)?;
     let tally = Tally {
         words: 1,
         lost: 1,
         ..NO_WORD
     };
-    assert_eq!(rt; received.ended, Ok(tally));
-    assert!(rt; received.frames.bytes().is_empty());
     let report = "word 0 lost\nwords 1 kept 0 lost 1 frames 0 lead 0 tail 0\n";
-    assert!(rt; received.report.bytes() == report.as_bytes());
-    assert_eq!(rt; received.held, 1_212_160);
+    let held = receives(&rt, &p, LARGE, &counts, Ok(tally), report)?;
+    assert_eq!(rt; held, 1_212_160);
     assert_eq!(rt; held_limit(&p, 1), 1_245_120);
     Ok(())
 }
@@ -96,7 +129,7 @@ fn dark_counts(rt: HostRuntime) -> Result<(), Fail> {
         ..NO_WORD
     };
     let dark = Err(RecvFault::NoMarker { counts: 75_920 });
-    for (count, limit, ended, line) in [
+    for (count, limit, ended, report) in [
         (
             75_919,
             75_919,
@@ -107,24 +140,29 @@ fn dark_counts(rt: HostRuntime) -> Result<(), Fail> {
         (75_920, 75_919, Err(RecvFault::TooLong), ""),
     ] {
         let counts = vec![in rt.alloc(); 0u8; count]?;
-        let received = receive(&rt, rt.alloc(), &p, 16, &counts, 7, limit)?;
-        assert_eq!(rt; received.ended, ended);
-        assert!(rt; received.frames.bytes().is_empty());
-        assert!(rt; received.report.bytes() == line.as_bytes());
+        let reads = Reads {
+            workers: 16,
+            piece: 7,
+            limit,
+            ..LARGE
+        };
+        receives(&rt, &p, reads, &counts, ended, report)?;
     }
     Ok(())
 }
 
 #[test]
 fn received_once(rt: HostRuntime) -> Result<(), Fail> {
-    let mut receiver = Receiver::new(rt.alloc(), &Profile::basic(), 2)?;
+    let p = Profile::basic();
+    let receiver = Receiver::new(rt.alloc(), &p, 2)?;
     assert!(rt; receiver.fresh() && receiver.held() == 0);
-    let mut input = MemSource::new(rt.alloc(), &[0, 0, 0], &[1], &[2])?;
-    let mut frames = MemSink::new(rt.alloc(), 0, &[])?;
-    let mut report = MemSink::new(rt.alloc(), 0, &[])?;
-    let ended = receiver.receive(&rt, &OpenGate, LIMIT, &mut input, &mut frames, &mut report);
-    assert_eq!(rt; ended, Err(RecvFault::Read));
-    assert!(rt; !receiver.fresh() && receiver.held() == 2);
+    let reads = Reads {
+        piece: 1,
+        failing: &[2],
+        ..LARGE
+    };
+    let held = receives(&rt, &p, reads, &[0, 0, 0], Err(RecvFault::Read), "")?;
+    assert_eq!(rt; held, 2);
     Ok(())
 }
 
@@ -141,13 +179,12 @@ fn any_cutting_and_number_of_workers(rt: HostRuntime) -> Result<(), Fail> {
     let report =
         "word 0 lost\nword 1 lost\nword 2 lost\nwords 3 kept 0 lost 3 frames 0 lead 0 tail 7\n";
     for (piece, workers) in [(7, 2), (1_000, 1), (1_000, 16), (65_536, 2)] {
-        assert!(rt; 1 <= workers);
-        assert!(rt; workers <= 16);
-        assert!(rt; 0 < piece);
-        let received = receive(&rt, rt.alloc(), &p, workers, &counts, piece, LIMIT)?;
-        assert_eq!(rt; received.ended, Ok(tally));
-        assert!(rt; received.report.bytes() == report.as_bytes());
-        assert!(rt; received.held <= held_limit(&p, workers));
+        let reads = Reads {
+            workers,
+            piece,
+            ..LARGE
+        };
+        receives(&rt, &p, reads, &counts, Ok(tally), report)?;
     }
     Ok(())
 }
@@ -180,10 +217,7 @@ fn two_octets_a_count(rt: HostRuntime) -> Result<(), Fail> {
         (7, TWO_OCTETS - 1, 3, whole),
         (65_536, TWO_OCTETS - 1, 3, whole),
     ] {
-        assert!(rt; 0 < piece);
         assert!(rt; count <= octets.len());
-        let octets = &octets[..count];
-        let received = receive(&rt, rt.alloc(), &p, 2, octets, piece, LIMIT)?;
         let tally = Tally {
             words: 1,
             lost: 1,
@@ -191,9 +225,12 @@ fn two_octets_a_count(rt: HostRuntime) -> Result<(), Fail> {
             tail,
             ..NO_WORD
         };
-        assert_eq!(rt; received.ended, Ok(tally));
-        assert!(rt; received.report.bytes() == report.as_bytes());
-        assert!(rt; received.held <= held_limit(&p, 2));
+        let reads = Reads {
+            workers: 2,
+            piece,
+            ..LARGE
+        };
+        receives(&rt, &p, reads, &octets[..count], Ok(tally), report)?;
     }
     Ok(())
 }
@@ -201,12 +238,10 @@ fn two_octets_a_count(rt: HostRuntime) -> Result<(), Fail> {
 #[test]
 fn half_a_count(rt: HostRuntime) -> Result<(), Fail> {
     let p = order_4(1, 1, 2)?;
-    let received = receive(&rt, rt.alloc(), &p, 1, &[9], 1, LIMIT)?;
     let tally = Tally { tail: 1, ..NO_WORD };
-    assert_eq!(rt; received.ended, Ok(tally));
     let report = "words 0 kept 0 lost 0 frames 0 lead 0 tail 1\n";
-    assert!(rt; received.report.bytes() == report.as_bytes());
-    assert_eq!(rt; received.held, 0);
+    let held = receives(&rt, &p, LARGE, &[9], Ok(tally), report)?;
+    assert_eq!(rt; held, 0);
     Ok(())
 }
 
@@ -227,13 +262,12 @@ fn takes_that_fail(rt: HostRuntime) -> Result<(), Fail> {
     ] {
         let p = order_4(1, 1, count_octets)?;
         let octets = vec![in rt.alloc(); octet; 4 * 37_880]?;
-        let mut receiver = Receiver::new(rt.alloc(), &p, 1)?;
-        let mut input = MemSource::new(rt.alloc(), &octets, &[5_001], &[failing])?;
-        let mut frames = MemSink::new(rt.alloc(), 0, &[])?;
-        let mut told = MemSink::new(rt.alloc(), 100, &[])?;
-        let ended = receiver.receive(&rt, &OpenGate, LIMIT, &mut input, &mut frames, &mut told);
-        assert_eq!(rt; ended, Err(RecvFault::Read));
-        assert!(rt; told.bytes() == report.as_bytes());
+        let reads = Reads {
+            piece: 5_001,
+            failing: &[failing],
+            ..LARGE
+        };
+        receives(&rt, &p, reads, &octets, Err(RecvFault::Read), report)?;
     }
     Ok(())
 }
