@@ -1,4 +1,5 @@
 pub mod Fronts
+pub mod FullSinks
 pub mod Known
 pub mod Marks
 mod Passing

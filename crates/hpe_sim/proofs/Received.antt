@@ -1,13 +1,13 @@
 -- What is received in memory.
-use Rattle.std.proofs.Common.{◌≡◌, ◌≤◌, ◌<◌, ◌+◌, ◌∙◌, ◌++◌, ℕ, List, [], length, take, arith, ap, sym, subst, Some, length-append, Result, Err}
+use Rattle.std.proofs.Common.{◌≡◌, ◌≤◌, ◌<◌, ◌+◌, ◌∙◌, ◌++◌, ℕ, List, length, take, arith, ap, sym, subst, Some, length-append, Result, Err}
 use Rattle.std.specs.declared.option.Option.{Option}
-use Rattle.std.proofs.lemmas.List.{take_all, length-take}
+use Rattle.std.proofs.lemmas.List.{take_all}
 use Rattle.std.proofs.Math.Seq.{take-append_seam}
 use Rattle.hpe_base.specs.Parameters.{Parameters}
 use Rattle.hpe_base.specs.Decoded.{decoded, report_of}
-use Rattle.hpe_io.specs.Devices.{Rose, GrowsByFront}
-use Rattle.hpe_io.specs.Memory.{Store, mark_of, mark_in}
-use Rattle.hpe_io.proofs.Marks.{mark_in-none}
+use Rattle.hpe_io.specs.Devices.{GrowsByFront}
+use Rattle.hpe_io.specs.Memory.{Store}
+use Rattle.hpe_io.proofs.FullSinks.{HasRoom, room_is_short}
 use Rattle.hpe_recv.specs.declared.receiver.Tally.{Tally}
 use Rattle.hpe_recv.specs.declared.receiver.RecvFault.{RecvFault}
 use Rattle.hpe_recv.specs.declared.receiver.RecvFault.TheVariants.{Write, Report}
@@ -32,25 +32,15 @@ received_front p limit left left' frames frames' report report' result fits fail
 
 -- a sink with room for more than all that is ever delivered is never full
 pub never_full : (p : Parameters) (limit : ℕ) (left left' : List ℕ) (old new : Store) (report report' : Option (List ℕ)) (told told' : ℕ) (result : Result Tally RecvFault) → length left ≤ limit
-    → ((n : ℕ) → length (decoded p (take n left)) < old.room)
-    → old.bytes ≡ [] → old.failing ≡ [] → old.faults ≡ 0 → mark_of new ≡ mark_of old
-    → (new.failing ≡ [] → 0 < new.faults → length new.bytes ≡ new.room)
+    → ((n : ℕ) → length (decoded p (take n left)) < old.room) → HasRoom old.room old new
     → result ≡ Err Write → HasFaultCause 0 0 old.faults new.faults told told' result
     → IfCutOff result (ReceivesPart p limit (Some left) (Some left') (Some old.bytes) (Some new.bytes) report report') → ⊥
-never_full p limit left left' old new report report' told told' result fits room empty none zero mark full failed cause cut =
+never_full p limit left left' old new report report' told told' result fits room sink failed cause cut =
     let h : ReceivesPart p limit (Some left) (Some left') (Some old.bytes) (Some new.bytes) report report' =
     subst (λ (x : Result Tally RecvFault). IfCutOff x (ReceivesPart p limit (Some left) (Some left') (Some old.bytes) (Some new.bytes) report report')) failed cut in
     let risen : HasFaultCause {T = Tally} 0 0 old.faults new.faults told told' (Err Write) = subst (λ (x : Result Tally RecvFault). HasFaultCause 0 0 old.faults new.faults told told' x) failed cause in
-    let rose : Rose old.faults new.faults = risen.1 in
     let l : Some left ≡ Some (h.octets ++ left') = h.lost in
     let e : left ≡ h.octets ++ left' = cc in
-    let m : mark_of new ≡ mark_in [] old.room = mark ∙ ap (λ (fs : List ℕ). mark_in fs old.room) none in
-    let sink = mark_in-none new.failing new.room old.room m in
-    let one : 0 < new.faults = omega arith in
-    let filled : length new.bytes ≡ old.room = full sink.0 one ∙ sink.1 in
     let due : length (decoded p (take limit h.octets)) < old.room =
     subst (λ (x : List ℕ). length (decoded p x) < old.room) (sym (front_of limit left left' h.octets fits e)) (room (length h.octets)) in
-    let g = h.decodes in
-    let w : Some new.bytes ≡ Some (old.bytes ++ take g.0 (decoded p (take limit h.octets))) = g.2 in
-    let written : new.bytes ≡ old.bytes ++ take g.0 (decoded p (take limit h.octets)) = cc in
-    omega (arith, ap (λ (l : List ℕ). length l) written, length-append old.bytes (take g.0 (decoded p (take limit h.octets))), length-take g.0 (decoded p (take limit h.octets)), ap (λ (l : List ℕ). length l) empty)
+    omega (arith, room_is_short (decoded p (take limit h.octets)) old.room old new sink risen.1 h.decodes)

@@ -62,7 +62,7 @@ pub(crate) fn receive_counts<T: Threads + Sync, G: Gate, R: Sink>(
 ) -> Result<Tally, SimFault>
     requires fresh { receiver.old.fresh ≡ true }
     requires few { length input.old.left ≤ 2 ^ 40 }
-    requires frames { (frames.old.bytes ≡ []) × (frames.old.failing ≡ []) × (frames.old.faults ≡ 0) }
+    requires frames { (frames.old.bytes ≡ []) × (frames.old.failing ≡ []) }
     requires room { (n : ℕ) → length (decoded receiver.old.parameters (take n input.old.left)) < frames.old.room }
     ensures answer { HasAnswer receiver.old.parameters input.old.left result }
     ensures frames { OnOk result (frames.new.bytes ≡ decoded receiver.old.parameters input.old.left) }

@@ -1,5 +1,4 @@
 mod Changed
-mod FullSinks
 mod TakenOctets
 mod SentFrames
 mod ReceivedCounts

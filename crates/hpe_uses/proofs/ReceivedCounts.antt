@@ -14,7 +14,7 @@ use Rattle.hpe_recv.specs.declared.receiver.RecvFault.{RecvFault}
 use Rattle.hpe_recv.specs.declared.receiver.RecvFault.TheVariants as recv
 use Rattle.hpe_uses.specs.Causes.{IsReceiveCause, most_octets}
 use Rattle.hpe_uses.specs.declared.fault.UseFault.TheVariants.{Unreceived}
-use Rattle.hpe_uses.proofs.FullSinks.{HasRoom, room_is_short}
+use Rattle.hpe_io.proofs.FullSinks.{HasRoom, room_is_short}
 use Rattle.hpe_uses.proofs.TakenOctets.{taken_before, taken_count, taken_front, taken_to_end}
 
 -- what stands where a call that received with a limit was cut off

@@ -1,21 +1,13 @@
 -- Why frames in memory were not sent.
-use Rattle.std.proofs.Common.{◌≡◌, ◌≤◌, ◌<◌, ◌+◌, ◌*◌, ◌%◌, ◌/◌, ◌∙◌, ◌++◌, ◌==◌, ℕ, List, [], length, take, if◌then◌else◌, Some, Result, Err, arith, ap, sym, subst, refl, inl, inr, length-append}
+use Rattle.std.proofs.Common.{◌≡◌, ◌≤◌, ◌<◌, ◌+◌, ◌%◌, ◌∙◌, ◌++◌, ℕ, List, length, take, Some, Result, Err, arith, ap, subst, refl, length-append}
 use Rattle.std.specs.Prelude.{IsErrOf}
-use Rattle.std.specs.Int.{div_ceil}
 use Rattle.std.specs.Io.KnownBytes.{prepend_known}
-use Rattle.std.proofs.Math.Nat.{div-zero}
-use Rattle.std.proofs.lemmas.Bool.{cases_lt}
 use Rattle.std.proofs.lemmas.List.{length-take}
-use Rattle.hpe_base.specs.Bits.{zeros}
-use Rattle.hpe_base.specs.Codeword.{word_symbols}
-use Rattle.hpe_base.specs.Frames.{bit_stream, frame_bits, frame_count}
-use Rattle.hpe_base.specs.Lists.{joined}
-use Rattle.hpe_base.specs.Parameters.{Parameters, block_bits, codeword_symbols}
+use Rattle.hpe_base.specs.Frames.{frame_count}
+use Rattle.hpe_base.specs.Parameters.{Parameters}
 use Rattle.hpe_base.specs.Slicer.{block_count}
-use Rattle.hpe_base.specs.Slots.{slots_of, octets_to, flush_words}
-use Rattle.hpe_base.proofs.ParameterLemmas.{block_bits-pos}
-use Rattle.hpe_base.proofs.SentSlots.{slots_up}
-use Rattle.hpe_base.proofs.Tabulated.{joined-none}
+use Rattle.hpe_base.specs.Slots.{slots_of}
+use Rattle.hpe_base.proofs.SentSlots.{fewer_slots}
 use Rattle.hpe_io.specs.Devices.{GrowsByFront, Rose, TakesCount}
 use Rattle.hpe_io.specs.Memory.{Store}
 use Rattle.hpe_send.specs.Sending.{HasReadCause, HasWriteCause, IfCutOff, IfRagged, Sends}
@@ -24,36 +16,8 @@ use Rattle.hpe_send.specs.declared.sender.SendFault.{SendFault}
 use Rattle.hpe_send.specs.declared.sender.SendFault.TheVariants as send
 use Rattle.hpe_uses.specs.Causes.{IsSendCause, most_octets}
 use Rattle.hpe_uses.specs.declared.fault.UseFault.TheVariants.{Unsent}
-use Rattle.hpe_uses.proofs.FullSinks.{HasRoom, room_is_short}
+use Rattle.hpe_io.proofs.FullSinks.{HasRoom, room_is_short}
 use Rattle.hpe_uses.proofs.TakenOctets.{taken_before, taken_count, taken_to_end}
-
--- ---- the slots of fewer octets
-
--- no frame is whole where a frame has no octet
-no_bits : (p : Parameters) (octets : List ℕ) → p.frame_octets ≡ 0 → bit_stream p octets ≡ []
-unfolding bit_stream
-no_bits p octets none =
-    let frames : frame_count p octets ≡ 0 = ap (λ n. length octets / n) none ∙ div-zero (length octets) in
-    ap (λ n. joined n (frame_bits p octets)) frames ∙ joined-none (frame_bits p octets)
-
--- slots are those of the bit stream
-slots_by_bits : (p : Parameters) (xs ys : List ℕ) → bit_stream p xs ≡ bit_stream p ys → slots_of p xs ≡ slots_of p ys
-unfolding slots_of
-slots_by_bits p xs ys e = ap
-    (λ (bits : List ℕ). octets_to p
-    (if div_ceil (length bits) (block_bits p.rate) == 0 then 0 else div_ceil (length bits) (block_bits p.rate) + flush_words p)
-    (joined (div_ceil (length bits) (block_bits p.rate)) (word_symbols p bits) ++ zeros (flush_words p * codeword_symbols p.order))) e
-
--- there are no more, however many octets a frame has
-fewer_slots : (p : Parameters) (xs ys : List ℕ) → length xs ≤ length ys → length (slots_of p xs) ≤ length (slots_of p ys)
-fewer_slots p xs ys h = elim (cases_lt 0 p.frame_octets) [
-  | inl some ↦ slots_up p xs ys (omega arith) (block_bits-pos p.rate) h
-  | inr none ↦
-      let zero : p.frame_octets ≡ 0 = omega arith in
-      omega (arith, ap (λ (l : List ℕ). length l) (slots_by_bits p xs ys (no_bits p xs zero ∙ sym (no_bits p ys zero))))
-]
-
--- ---- the cause of each fault
 
 -- what was sent up to a failure
 abbrev SentPart : Parameters → ℕ → List ℕ → List ℕ → Store → Store → Type 0

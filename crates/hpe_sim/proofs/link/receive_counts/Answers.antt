@@ -1,4 +1,4 @@
-use Rattle.std.proofs.Common.{rules, ◌≡◌, ◌^◌, ◌∙◌, ap, Err}
+use Rattle.std.proofs.Common.{rules, ◌≡◌, ◌^◌, ◌∙◌, ap, refl, Err}
 use Rattle.hpe_recv.specs.declared.receiver.RecvFault.TheVariants.{Write, Report}
 use Rattle.hpe_sim.proofs.Received.{never_full, received_front}
 use Rattle.hpe_sim.proofs.link.receive_counts.Goals as goal
@@ -11,7 +11,8 @@ unreachable-requires g c =
     let f = c.requires.frames in
     never_full c.args.receiver.now.parameters (2 ^ 40) c.args.input.now.left c.receive-ended.new.input.left c.args.frames.now c.receive-ended.new.frames
     (g.R.Sink.written c.args.report.now) (g.R.Sink.written c.receive-ended.new.report) (g.R.Sink.faults c.args.report.now) (g.R.Sink.faults c.receive-ended.new.report) c.receive-ended.result
-    c.requires.few c.requires.room f.0 f.1 f.2 h.frames_stand.same_mark c.bytes-written.ensures.full failed h.cause h.cut
+    c.requires.few c.requires.room
+    (record { empty = f.0; none = f.1; size = refl; mark = h.frames_stand.same_mark; full = c.bytes-written.ensures.full }) failed h.cause h.cut
 
 pub returns-in-Err-Report-clause-report : goal.returns-in-Err-Report-clause-report
 returns-in-Err-Report-clause-report g c =

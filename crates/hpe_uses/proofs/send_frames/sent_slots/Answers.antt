@@ -1,6 +1,6 @@
 use Rattle.std.proofs.Common.{rules}
 use Rattle.std.proofs.lemmas.Result.{err_from_is_err_and}
-use Rattle.hpe_uses.proofs.FullSinks.{full_inside}
+use Rattle.hpe_io.proofs.FullSinks.{full_inside}
 use Rattle.hpe_uses.proofs.SentFrames.{send_cause}
 use Rattle.hpe_uses.proofs.send_frames.sent_slots.Goals as goal
 
